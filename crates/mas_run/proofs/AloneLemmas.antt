@@ -1,5 +1,5 @@
 -- Copies that are left alone aren't both lost.
-use Rattle.mas_run.proofs.Names.{◌≡◌, ℕ, ◌+◌, Bool, true, false, not, ◌&&◌, if◌then◌else◌, List, [], ◌∷◌, Option, Some, None, Ok, Err, refl, sym, ◌∙◌, ap, subst, ◌≢◌, ◌⊎◌, inl, inr, ⊎_elim, zero, suc, ◌-◌, ◌≤◌, ◌<◌, ◌==◌, nat_le, All, drop, replicate, Result, arith, eq-eqb, ◌||◌, slice_index_or, is_some, slice_set, Script, and_from, cases_eq, All-head, All-tail, Status, Dev, Ckpt1, Ckpt2, MemberId, Page, Journal, Config, Queue, is_member, Book, beginner, is_holder, is_stopped, try_refusal, after_free, after_seize, after_try, granted, left_of, noted, seize_refusal, standing, ticked, with_holder, with_standing, after_spend, after_stop, Ask, Step, IsBy, IsStep, Disk, View, disk_now, Rose, next as next_moment, top, form_reads, form_room, Admission, admitted, tried, Given, RightIf, ask_with, given_first, line_with, outcomes_with, play_with, outcomes_if, Cause, Cut, Ends, Stops, Scene, scene_of, Outcome, is_up, silent, WasLost, NodeNo, CutsAs, cut_in, is_takeover, loses_then, same_device, admitted_at, played_at, ArePassed, Here, TakeNone, There, here_after, line_of, loses_after, has_begun, as_found, begins_at, HavePassed, IsRun, LinesBegun, LinesEnded, starts, stops, AreLeftAlone, CannotStop, IsLeftAlone, TakesNone, resets_in, IsNotStarted, get_or-set_other, nobody, Standing, left_by, Play, no, CallsKeep, left_keeps, tried_keeps, Comes, TakeoverCame, comes}
+use Rattle.mas_run.proofs.Names.{some_of, ◌≡◌, ℕ, ◌+◌, Bool, true, false, not, if◌then◌else◌, List, [], ◌∷◌, Option, Some, None, Ok, Err, refl, sym, ◌∙◌, ap, subst, ◌≢◌, ◌⊎◌, inl, inr, ⊎_elim, ◌-◌, ◌≤◌, ◌==◌, All, drop, Result, arith, eq-eqb, Script, and_from, All-head, All-tail, Dev, Ckpt1, Ckpt2, MemberId, Page, Config, is_member, Book, is_stopped, standing, Ask, Step, IsBy, IsStep, Disk, View, disk_now, Rose, next as next_moment, form_reads, form_room, Admission, admitted, Given, ask_with, given_first, line_with, outcomes_with, play_with, outcomes_if, Cut, Ends, Stops, Scene, scene_of, Outcome, is_up, silent, WasLost, NodeNo, CutsAs, cut_in, is_takeover, loses_then, admitted_at, Here, TakeNone, There, here_after, line_of, loses_after, has_begun, as_found, begins_at, HavePassed, IsRun, LinesBegun, LinesEnded, RunResult, starts, stops, AreLeftAlone, CannotStop, IsLeftAlone, TakesNone, resets_in, IsNotStarted, left_by, Play, no, left_keeps, tried_keeps, Comes, TakeoverCame, comes, IsNext, LineAt, Proceeds}
 use Rattle.script_lang.specs.declared.types.Run.{Run}
 use Rattle.script_input.specs.Script.{read_as}
 use Rattle.script_laws.specs.Laws.{ReadsScripts}
@@ -8,10 +8,13 @@ use Rattle.std.specs.Str.{bytes_eq}
 use Rattle.std.proofs.lemmas.Slice.Eq.{bytes_eq-Decides}
 use Rattle.ckpt_copy.specs.Pages.{bytes_of, level}
 use Rattle.mas_complex.specs.Fits.{are_same, fits}
+use Rattle.run_opening.specs.Runs.{IsFoundQueue}
 use Rattle.warm_start.specs.Starting.{Mark, IsFound, IsSeen, IsUnfit, NoneOrFailed}
 use Rattle.start_choice.specs.Usable.{HaveSize, IsUsable}
-use Rattle.mas_run.proofs.PassedLemmas.{by_going, passed_goes}
-use Rattle.mas_run.proofs.MuteLineLemmas.{same_dev}
+use Rattle.member_resets.proofs.BookLemmas.{SameStop, other_set, same_calls}
+use Rattle.run_turns.proofs.One.{new_up}
+use Rattle.mas_run.proofs.EachLemmas.{each_line}
+use Rattle.mas_run.proofs.PassedLemmas.{device_is}
 use Rattle.mas_types.specs.declared.answers.Status.TheVariants as status
 use Rattle.script_lang.specs.declared.types.Ask.TheVariants as ask
 
@@ -33,12 +36,6 @@ module _ (run : Run) (only : run.only ≡ true) where
 
 -- Copies that are left alone aren't both lost.
 
--- a member that stands otherwise there is stopped exactly if it was, where this doesn't change that
-set_as : (xs : List Standing) (i : ℕ) (s d : Standing) → s.stopped ≡ (slice_index_or xs i d).stopped → (slice_index_or (slice_set xs i s) i d).stopped ≡ (slice_index_or xs i d).stopped
-set_as [] i s d same = refl
-set_as (x ∷ xs) zero s d same = same
-set_as (x ∷ xs) (suc i) s d same = set_as xs i s d same
-
 -- the member of a line was stopped where it was cut
 abbrev StopsIn : Option Cut → Type 0
 StopsIn None = ⊥
@@ -55,65 +52,25 @@ module _ (by k : MemberId) where
 
   -- a member is stopped exactly if it was
   abbrev Same : Book → Book → Type 0
-  Same b c = is_stopped c k ≡ is_stopped b k
-
-  same_then : (a b c : Book) → Same a b → Same b c → Same a c
-  same_then a b c one two = two ∙ one
-
-  other_set : Apart → (b : Book) (s : Standing) → Same b (with_standing b by s)
-  other_set apart b s = ap (λ (x : Standing). x.stopped) (get_or-set_other b.members (by.0 - 1) (k.0 - 1) s (beginner 0) apart)
-
-  set_same : (b : Book) (s : Standing) → s.stopped ≡ is_stopped b by → Same b (with_standing b by s)
-  set_same b s same =
-      ⊎_elim
-      (λ here. subst (λ (i : ℕ). (slice_index_or (slice_set b.members (by.0 - 1) s) i (beginner 0)).stopped ≡ (slice_index_or b.members i (beginner 0)).stopped) (sym here) (set_as b.members (by.0 - 1) s (beginner 0) same))
-      (λ apart. other_set apart b s) (cases_eq (k.0 - 1) (by.0 - 1))
-
-  if_same : (t : Bool) (b c d : Book) → Same b c → Same b d → Same b (if t then c else d)
-  if_same true b c d one two = one
-  if_same false b c d one two = two
-
-  -- CALLS OF THE BOOK
-
-  granted_same : (b : Book) → Same b (granted b by)
-  granted_same b = set_same (with_holder b by) (record (standing b by) { left = b.hold }) refl
-
-  tried_same : (b : Book) (inner : Bool) → Same b (after_try b by inner)
-  tried_same b inner =
-      if_same (is_stopped b by || is_holder b by) b b (if is_some (try_refusal b by inner) then ticked b inner else granted (ticked b inner) by) refl
-      (if_same (is_some (try_refusal b by inner)) b (ticked b inner) (granted (ticked b inner) by) refl (granted_same (ticked b inner)))
-
-  freed_same : (b : Book) (inner : Bool) → Same b (after_free b by inner)
-  freed_same b inner =
-      if_same (is_holder b by) b (if inner then with_holder b nobody else with_holder (noted b by) nobody) b
-      (if_same inner b (with_holder b nobody) (with_holder (noted b by) nobody) refl (set_same b (record (standing b by) { freed = Some b.tick }) refl)) refl
+  Same b c = SameStop by k b c
 
   -- A LINE
 
-  -- they keep how it was
-  calls_same : (b : Book) → CallsKeep by (λ (c : Book). Same b c)
-  calls_same b = record {
-    tries = λ c inner is. same_then b c (after_try c by inner) is (tried_same c inner);
-    seizes = λ c of is. same_then b c (after_seize c by of) is (if_same (is_some (seize_refusal c of)) c c (granted c by) refl (granted_same c));
-    frees = λ c inner is. same_then b c (after_free c by inner) is (freed_same c inner);
-    spends = λ c n is. same_then b c (after_spend c by n) is (set_same c (record (standing c by) { left = left_of c by - n }) refl);
-  }
-
   play_same : (play : Play) (count : ℕ) (cut : Option Cut) → (StopsIn cut → Apart) → Same play.book (left_by by cut play count).book
-  play_same play count cut apart = left_keeps by (λ (c : Book). Same play.book c) (calls_same play.book) cut
-      (λ k is why b now. same_then play.book b (after_stop b by) now (other_set (apart (subst StopsIn (sym is) why)) b (record (standing b by) { stopped = true }))) play count refl
+  play_same play count cut apart = left_keeps by (λ (c : Book). Same play.book c) (same_calls by k play.book) cut
+      (λ c is why b now. other_set by k (apart (subst StopsIn (sym is) why)) b (record (standing b by) { stopped = true }) ∙ now) play count refl
 
   silent_same : (t : Bool) (S T U : Scene) → Same S.book T.book → Same S.book U.book → Same S.book (if t then silent T else silent U).next.book
   silent_same true S T U one two = one
   silent_same false S T U one two = two
 
   line_stops : (S : Scene) (at : ℕ) (g : Given) (what : Ask) → (StopsBy what g.sight.cut → Apart) → Same S.book (ask_with S by at g what).next.book
-  line_stops S at g ask.Stop apart = silent_same (is_up S by) S _ S (other_set (apart (inl refl)) S.book (record (standing S.book by) { stopped = true })) refl
+  line_stops S at g ask.Stop apart = silent_same (is_up S by) S _ S (other_set by k (apart (inl refl)) S.book (record (standing S.book by) { stopped = true })) refl
   line_stops S at g (ask.StopIn what n) apart = silent_same (is_up S by) S _ S refl refl
   line_stops S at g (ask.Lose dev) apart = refl
   line_stops S at g another apart =
       let line_same : (S : Scene) (a : Admission) (g : Given) → (StopsIn g.sight.cut → Apart) → Same S.book (left_by by g.sight.cut (play_with S by a g) (S.counts by)).book =
-      λ S a g apart. same_then S.book (tried S.book by a) (left_by by g.sight.cut (play_with S by a g) (S.counts by)).book (tried_keeps by (λ (c : Book). Same S.book c) (calls_same S.book) a S.book refl) (play_same (play_with S by a g) (S.counts by) g.sight.cut apart) in
+      λ S a g apart. play_same (play_with S by a g) (S.counts by) g.sight.cut apart ∙ tried_keeps by (λ (c : Book). Same S.book c) (same_calls by k S.book) a S.book refl in
       line_same S (admitted S.queue.config S.book by another) g (λ stop. apart (inr stop))
 
 -- NO LOCK IS TAKEN OVER where no line resets another member that a line before it may have stopped
@@ -123,25 +80,13 @@ module _ (config : Config) (b : Book) (by : MemberId) where
   takes_by (TakeoverCame c of up so member down holds) apart = absurd (no true refl (sym down ∙ apart of so up.up member))
   takes_by _ apart = refl
 
-  admitted_takes : (what : Ask) → ((k : MemberId) → resets_in what ≡ Some k → is_stopped b by ≡ false → is_member config k ≡ true → is_stopped b k ≡ false) → is_takeover (admitted config b by what) ≡ false
-  admitted_takes what apart = takes_by (comes config b by what) apart
-
--- who is a member has a number
-member_some : (config : Config) (k : MemberId) → is_member config k ≡ true → 1 ≤ k.0
-member_some config k is = some k.0 is where
-  some : (n : ℕ) → (not (n == 0) && nat_le n config.members) ≡ true → 1 ≤ n
-  some zero e = absurd (no true refl (sym e))
-  some (suc n) e = omega arith
-
 -- A CUT AND A STOP
 
 -- where its member was stopped in it a count of stops rose
 stop_rose : (answer : Result (Unit {0}) NodeNo) (by : MemberId) (cut : Option Cut) (x y : View) → CutsAs answer by cut x y → StopsIn cut → Rose (x.stops by.0) (y.stops by.0)
 stop_rose answer by None x y so stop = absurd stop
 stop_rose (Ok done) by (Some cut) x y so stop = so.2
-stop_rose (Err e) by (Some cut) x y so stop = absurd (let ends : cut.cause ≡ Ends = so.0 in not_both_causes cut.cause stop ends) where
-  not_both_causes : (cause : Cause) → cause ≡ Stops → cause ≡ Ends → ⊥
-  not_both_causes cause one two = absurd (cc)
+stop_rose (Err e) by (Some cut) x y so stop = absurd (let both : Stops ≡ Ends = sym stop ∙ so.0 in cc)
 
 -- who is stopped by a line is a member
 stops_member : (by : MemberId) (what : Ask) (cut : Option Cut) → IsBy by what → StopsBy what cut → 1 ≤ by.0
@@ -151,59 +96,49 @@ stops_member by (ask.Lose dev) cut is (inr stop) = absurd stop
 stops_member by _ cut is stop = is.0
 
 -- LINES ONE AFTER ANOTHER, in a run whose plant showed `old` before and `new` after it
-module _ (told : Type 0) (old new : View) where
+module _ (old new : View) where
   -- whom no line before can have stopped isn't stopped
   abbrev AreUp : List Step → Book → Type 0
   AreUp before b = (k : MemberId) → 1 ≤ k.0 → All (CannotStop old new k) before → is_stopped b k ≡ false
 
-  -- a count rose in a run in which it rose
   -- a line that can't have stopped a member stops another one, or nobody
   stops_other : (k : MemberId) (s : Step) (answer : Result (Unit {0}) NodeNo) (cut : Option Cut) (x y : View) → 1 ≤ k.0 → IsBy s.by s.what → CannotStop old new k s
-      → CutsAs answer s.by (cut_in s.what cut) x y → ((m : ℕ) → old.stops m ≤ x.stops m) → ((m : ℕ) → y.stops m ≤ new.stops m) → StopsBy s.what cut → k.0 - 1 ≢ s.by.0 - 1
-  stops_other k s answer cut x y some by cannot so since until stop same = let rose_in : (was x y is : ℕ) → was ≤ x → y ≤ is → Rose x y → Rose was is = λ was x y is from to rose. omega (arith, from, to, rose) in
+      → CutsAs answer s.by (cut_in s.what cut) x y → old.stops s.by.0 ≤ x.stops s.by.0 → y.stops s.by.0 ≤ new.stops s.by.0 → StopsBy s.what cut → k.0 - 1 ≢ s.by.0 - 1
+  stops_other k s answer cut x y some by cannot so since until stop same =
       let one : 1 ≤ s.by.0 = stops_member s.by s.what cut by stop in
       let number : s.by.0 ≡ k.0 = omega (arith, some, one, same) in
+      let rise : StopsIn (cut_in s.what cut) → Rose (old.stops s.by.0) (new.stops s.by.0) = λ halted. let rose = stop_rose answer s.by (cut_in s.what cut) x y so halted in omega (arith, since, until, rose) in
       ⊎_elim (λ other. other (ap (λ (i : ℕ). let m : MemberId = record { 0 = i } in m) number))
-      (λ spared. ⊎_elim (λ is. spared.0 is)
-      (λ halted. spared.1 (subst (λ (n : ℕ). Rose (old.stops n) (new.stops n)) number (rose_in (old.stops s.by.0) (x.stops s.by.0) (y.stops s.by.0) (new.stops s.by.0) (since s.by.0) (until s.by.0) (stop_rose answer s.by (cut_in s.what cut) x y so halted)))) stop)
-      cannot
+      (λ spared. ⊎_elim spared.0 (λ halted. spared.1 (subst (λ (n : ℕ). Rose (old.stops n) (new.stops n)) number (rise halted))) stop) cannot
 
-  line_takes : (S : Scene) (at : ℕ) (g : Given) (before : List Step) (s : Step) → ((of : MemberId) → resets_in s.what ≡ Some of → (of ≡ s.by) ⊎ All (CannotStop old new of) before) → AreUp before S.book
-      → is_takeover (admitted_at (record { scene = S; number = at; step = s; given = g })) ≡ false
-  line_takes S at g before s spares up =
-      admitted_takes S.queue.config S.book s.by s.what
-      (λ k resets free is. ⊎_elim (λ own. ap (λ (m : MemberId). is_stopped S.book m) own ∙ free) (λ none. up k (member_some S.queue.config k is) none) (spares k resets))
+  -- what is known before a line: of those before it, and of the book
+  abbrev AreSpared : List Step → Here → Type 0
+  AreSpared steps h = (before : List Step) × TakesNone old new before steps × AreUp before h.scene.book × All IsStep steps × ((m : ℕ) → old.stops m ≤ h.view.stops m)
 
-  takes_none : (h : Here) (gs : List Given) (before steps : List Step) (many : ℕ) (end : There) → ((m : ℕ) → old.stops m ≤ h.view.stops m) → ((m : ℕ) → end.view.stops m ≤ new.stops m)
-      → All IsStep steps → TakesNone old new before steps → AreUp before h.scene.book → ArePassed told h gs steps many end → TakeNone h.scene h.number gs steps
-  takes_none h gs before [] many end since until fits takes up p = tt
-  takes_none h gs before (s ∷ steps) many end since until fits takes up (there, more, is, next_moment, rest) =
-      let g = given_first gs in
-      let p = played_at (line_of h g s) in
-      let h2 = here_after h g s there in
-      let from : (m : ℕ) → old.stops m ≤ there.view.stops m = λ m. omega (arith, since m, next_moment.passed.goes.stops m) in (
-        line_takes h.scene h.number g before s takes.0 up,
-        by_going p.goes_on (λ b. RightIf b (TakeNone p.next (h.number + 1) (drop 1 gs) steps)) rest
-            (λ x.
-            let to : (m : ℕ) → there.view.stops m ≤ new.stops m = λ m. omega (arith, (passed_goes told h2 (drop 1 gs) steps more end x.1).stops m, until m) in
-            takes_none h2 (drop 1 gs) (s ∷ before) steps more end from until (All-tail IsStep s steps fits) takes.1
-            (λ k some none.
-            line_stops s.by k h.scene h.number g s.what
-            (stops_other k s there.answer g.sight.cut h.view there.view some (All-head IsStep s steps fits).by (All-head (CannotStop old new k) s before none) next_moment.passed.cut since to)
-            ∙ up k some (All-tail (CannotStop old new k) s before none)) x.1)
-            (λ e. tt),
+  line_takes : (told : Type 0) (h : Here) (g : Given) (s : Step) (steps : List Step) (there : There) → AreSpared (s ∷ steps) h → IsNext told h g s there → Proceeds there.view new
+      → (is_takeover (admitted_at (line_of h g s)) ≡ false) × AreSpared steps (here_after h g s there)
+  line_takes told h g s steps there (before, takes, up, fits, since) next goes =
+      let S = h.scene in (
+        takes_by S.queue.config S.book s.by (comes S.queue.config S.book s.by s.what)
+            (λ k resets free is. ⊎_elim (λ own. ap (λ (m : MemberId). is_stopped S.book m) own ∙ free) (λ none. up k (some_of S.queue.config k is) none) (takes.0 k resets)),
+        (
+          s ∷ before,
+          takes.1,
+          (λ k some none.
+              line_stops s.by k S h.number g s.what
+              (stops_other k s there.answer g.sight.cut h.view there.view some (All-head IsStep s steps fits).by (All-head (CannotStop old new k) s before none) next.passed.cut (since s.by.0) (goes.stops s.by.0))
+              ∙ up k some (All-tail (CannotStop old new k) s before none)),
+          All-tail IsStep s steps fits,
+          (λ m. omega (arith, since m, next.passed.goes.stops m)),
+        ),
       )
-
-fresh_up : (n i hold : ℕ) → (slice_index_or (replicate n (beginner hold)) i (beginner 0)).stopped ≡ false
-fresh_up zero i hold = refl
-fresh_up (suc n) zero hold = refl
-fresh_up (suc n) (suc i) hold = fresh_up n i hold
 
 -- no line of a run takes the lock over
 run_takes : (told : Type 0) (b : LinesBegun) (e : LinesEnded) (p : HavePassed told b e) (old : View) → ((m : ℕ) → old.stops m ≤ b.view.stops m) → All IsStep b.steps → TakesNone old e.view [] b.steps
     → TakeNone (scene_of b.from) 1 p.given b.steps
 run_takes told b e p old since fits takes =
-    takes_none told old e.view (starts b) p.given [] b.steps e.many (stops e p.result) since (λ m. let same : e.view.stops m ≤ e.view.stops m = omega arith in same) fits takes (λ k some none. fresh_up b.from.config.members (k.0 - 1) b.from.config.hold) p.passed
+    each_line told (λ (l : LineAt). is_takeover (admitted_at l) ≡ false) (AreSpared old e.view) (stops b e p.result) (line_takes old e.view told) (starts b) p.given b.steps e.many
+    ([], takes, (λ k some none. new_up b.from.config.members b.from.config.hold (k.0 - 1)), fits, since) p.passed
 
 -- LINES THAT DON'T LOSE A COPY
 
@@ -212,14 +147,8 @@ module _ (d : Dev) (n : ℕ) where
   silent_loses true S T = refl
   silent_loses false S T = refl
 
-  other_loses : (dev : Dev) → ask.Lose dev ≢ ask.Lose d → loses_then (Some dev) d n ≡ n
-  other_loses dev other = by_same (same_device d dev) refl where
-    by_same : (t : Bool) → same_device d dev ≡ t → (if t then next_moment n else n) ≡ n
-    by_same true is = absurd (other (ap (λ (x : Dev). ask.Lose x) (sym (same_dev d dev is))))
-    by_same false is = refl
-
   ask_loses : (S : Scene) (by : MemberId) (at : ℕ) (g : Given) (what : Ask) → what ≢ ask.Lose d → loses_then (ask_with S by at g what).outcome.loses d n ≡ n
-  ask_loses S by at g (ask.Lose dev) other = other_loses dev other
+  ask_loses S by at g (ask.Lose dev) other = ap (λ (t : Bool). if t then next_moment n else n) (device_is d dev (λ same. other (ap (λ (x : Dev). ask.Lose x) (sym same))))
   ask_loses S by at g ask.Stop other = silent_loses (is_up S by) _ _
   ask_loses S by at g (ask.StopIn fuse k) other = silent_loses (is_up S by) _ _
   ask_loses S by at g _ other = refl
@@ -242,16 +171,15 @@ same_as_self : (xs : List Page) → are_same xs xs ≡ true
 same_as_self [] = refl
 same_as_self (x ∷ xs) = and_from (bytes_eq x.0 x.0) (are_same xs xs) ((bytes_eq-Decides x.0 x.0).1 refl) (same_as_self xs)
 
--- WHAT A START FINDS WHERE ONE COPY WAS LOST BEFORE: the pages of the other one, which the start doesn't lose
+-- WHAT A START FINDS: pages that a copy has which wasn't lost, and which the start doesn't lose
 
 module _ (dev : Dev) (old new : View) (mark : Mark) where
-  none_of_lost : (found : List ℕ) (seen : Option (List ℕ)) → IsSeen form_reads dev old new mark seen → seen ≡ Some found → old.lost (Disk dev) ≡ true → ⊥
-  none_of_lost found None is same lost = absurd (cc)
-  none_of_lost found (Some bytes) is same lost = no (old.lost (Disk dev)) lost is.0
+  abbrev Reads : List ℕ → Type 0
+  Reads found = (old.lost (Disk dev) ≡ false) × (form_reads (disk_now old dev).bytes ≡ Some found)
 
-  read_of : (found : List ℕ) (seen : Option (List ℕ)) → IsSeen form_reads dev old new mark seen → seen ≡ Some found → form_reads (disk_now old dev).bytes ≡ Some found
-  read_of found None is same = absurd (cc)
-  read_of found (Some bytes) is same = is.1 ∙ same
+  seen_reads : (found : List ℕ) (seen : Option (List ℕ)) → IsSeen form_reads dev old new mark seen → seen ≡ Some found → Reads found
+  seen_reads found None is same = absurd (cc)
+  seen_reads found (Some bytes) is same = (is.0, is.1 ∙ same)
 
   module _ (room : ℕ) (pages : List Page) (sized : HaveSize pages) (usable : IsUsable pages) (failed : Rose (old.faults (Disk dev)) (new.faults (Disk dev)) → ⊥) (read : form_reads (disk_now old dev).bytes ≡ Some (bytes_of pages)) where
     unfit_seen : (seen : Option (List ℕ)) → IsSeen form_reads dev old new mark seen → ((own : List Page) → seen ≡ Some (bytes_of own) → HaveSize own → IsUsable own → fits pages own room ≡ false) → ⊥
@@ -263,17 +191,14 @@ module _ (dev : Dev) (old new : View) (mark : Mark) where
     never_unfit : IsUnfit form_reads dev old new mark room pages → ⊥
     never_unfit u = unfit_seen u.seen u.is u.unfit
 
+found_reads : (old new : View) (mark : Mark) (found : List ℕ) → IsFound form_reads old new mark found → Reads Ckpt1 old new mark found ⊎ Reads Ckpt2 old new mark found
+found_reads old new mark found f = ⊎_elim (λ b. inl (seen_reads Ckpt1 old new mark found f.one f.seen1 b.0)) (λ b. inr (seen_reads Ckpt2 old new mark found f.two f.seen2 b.0)) f.best
+
 -- BOTH LOST
 
-abbrev Alone : Dev → List Step → View → View → Type 0
-Alone dev steps old new = IsLeftAlone dev steps old new
-
--- a copy that was left alone was lost by calls, if it was lost
--- a copy that was left alone isn't lost in a run that hasn't begun, where no call lost it
-unlost : (dev : Dev) (steps : List Step) (old new : View) → Alone dev steps old new → new.loses dev ≡ old.loses dev → WasLost dev old new → ⊥
-unlost dev steps old new alone same lost = let by_calls : (dev : Dev) (steps : List Step) (old new : View) → Alone dev steps old new → WasLost dev old new → Rose (old.loses dev) (new.loses dev) = λ dev steps old new alone lost. ⊎_elim (λ f. absurd (alone.failed f)) (λ r. r) lost in
-    let not_risen : (was is : ℕ) → is ≡ was → was < top → Rose was is → ⊥ = λ was is same few rose. omega (arith, same, few, rose) in
-    not_risen (old.loses dev) (new.loses dev) same alone.counted (by_calls dev steps old new alone lost)
+-- a copy that was left alone isn't lost where no call lost it
+unlost : (dev : Dev) (steps : List Step) (old new : View) → IsLeftAlone dev steps old new → new.loses dev ≡ old.loses dev → WasLost dev old new → ⊥
+unlost dev steps old new alone same lost = ⊎_elim alone.failed (λ rose. let few = alone.counted in omega (arith, same, few, rose)) lost
 
 -- a copy that was left alone is there for a warm run
 unstarted_alone : (steps : List Step) (old new : View) → AreLeftAlone steps old new → NoneOrFailed old new → ⊥
@@ -282,8 +207,11 @@ unstarted_alone steps old new (inl (one, (inr lost))) failed = ⊎_elim (λ both
 unstarted_alone steps old new (inr (two, lost)) failed = ⊎_elim (λ both. no (old.lost (Disk Ckpt2)) both.1 two.there) (λ some. ⊎_elim (λ f. no (old.lost (Disk Ckpt1)) lost f.0) (λ f. two.failed f.1) some) failed
 
 -- in a run no call loses a copy that was left alone, except before the first line
-module _ (tells : Type 0) (told : tells) (script : Script) (answer : Status) (base : Queue) (J : Journal) (since : ℕ) (old new : View) (fits : All IsStep script.steps) (takes : TakesNone old new [] script.steps) where
-  unrisen : (cold : Bool) (r : IsRun cold tells script answer base J since old new) (d : Dev) → Alone d script.steps old new → r.first d ≡ old.loses d → WasLost d old new → ⊥
+module _ (tells : Type 0) (told : tells) (script : Script) (old : View) (end : RunResult) (fits : All IsStep script.steps) (takes : TakesNone old end.view [] script.steps) where
+  abbrev new : View
+  new = end.view
+
+  unrisen : (cold : Bool) (r : IsRun cold tells script old end) (d : Dev) → IsLeftAlone d script.steps old new → r.first d ≡ old.loses d → WasLost d old new → ⊥
   unrisen cold r d alone same lost = unlost d script.steps old new alone (counted ∙ r.steps.played.lost_before d ∙ same) lost where
     counted : new.loses d ≡ r.steps.entry.loses d
     counted = ⊎_elim (λ none. ap (λ (v : View). v.loses d) none.still)
@@ -292,33 +220,30 @@ module _ (tells : Type 0) (told : tells) (script : Script) (answer : Status) (ba
         ∙ lines_lose d _ 1 p.given script.steps (r.steps.entry.loses d) alone.unasked)
         (r.steps.played.told told)
 
-  warm_alone : IsRun false tells script answer base J since old new → AreLeftAlone script.steps old new → WasLost Ckpt1 old new → WasLost Ckpt2 old new → ⊥
-  warm_alone r (inl (one, (inl two))) lost1 lost2 = ⊎_elim (λ e. unrisen false r Ckpt1 one e lost1) (λ e. unrisen false r Ckpt2 two e lost2) r.queue.one
-  warm_alone r (inl (one, (inr gone))) lost1 lost2 =
-      let found_first : (old new : View) (mark : Mark) (found : List ℕ) → old.lost (Disk Ckpt2) ≡ true → IsFound form_reads old new mark found → form_reads (disk_now old Ckpt1).bytes ≡ Some found =
-      λ old new mark found lost f. ⊎_elim (λ b. read_of Ckpt1 old new mark found f.one f.seen1 b.0) (λ b. absurd (none_of_lost Ckpt2 old new mark found f.two f.seen2 b.0 lost)) f.best in
-      let q = r.queue in
-      let read = found_first old (as_found r.lost new) (begins_at since r.first) (bytes_of q.pages) gone (q.found told) in
-      ⊎_elim (λ e. unrisen false r Ckpt1 one e lost1)
-      (λ u. never_unfit Ckpt1 old (as_found r.lost new) (begins_at since r.first) (form_room (disk_now old Ckpt1).bytes) q.pages q.sized (q.tables, q.are) one.failed read u) (q.kept1 told)
-  warm_alone r (inr (two, gone)) lost1 lost2 =
-      let found_second : (old new : View) (mark : Mark) (found : List ℕ) → old.lost (Disk Ckpt1) ≡ true → IsFound form_reads old new mark found → form_reads (disk_now old Ckpt2).bytes ≡ Some found =
-      λ old new mark found lost f. ⊎_elim (λ b. absurd (none_of_lost Ckpt1 old new mark found f.one f.seen1 b.0 lost)) (λ b. read_of Ckpt2 old new mark found f.two f.seen2 b.0) f.best in
-      let q = r.queue in
-      let read = found_second old (as_found r.lost new) (begins_at since r.first) (bytes_of q.pages) gone (q.found told) in
-      ⊎_elim (λ e. unrisen false r Ckpt2 two e lost2)
-      (λ u. never_unfit Ckpt2 old (as_found r.lost new) (begins_at since r.first) (form_room (disk_now old Ckpt2).bytes) q.pages q.sized (q.tables, q.are) two.failed read u) (q.kept2 told)
+  -- the copy that a warm run finds alone has its pages, and stays
+  module _ (r : IsRun false tells script old end) where
+    abbrev q : IsFoundQueue tells old (as_found r.lost new) end.since r.first end.base
+    q = r.begun.queue
+
+    stayed : (dev : Dev) → IsLeftAlone dev script.steps old new → Reads dev old (as_found r.lost new) (begins_at end.since r.first) (bytes_of q.pages)
+        → (r.first dev ≡ old.loses dev) ⊎ IsUnfit form_reads dev old (as_found r.lost new) (begins_at end.since r.first) (form_room (disk_now old dev).bytes) q.pages → WasLost dev old new → ⊥
+    stayed dev alone reads kept lost = ⊎_elim (λ e. unrisen false r dev alone e lost)
+        (λ u. never_unfit dev old (as_found r.lost new) (begins_at end.since r.first) (form_room (disk_now old dev).bytes) q.pages q.sized (q.tables, q.are) alone.failed reads.1 u) kept
+
+    warm_alone : AreLeftAlone script.steps old new → WasLost Ckpt1 old new → WasLost Ckpt2 old new → ⊥
+    warm_alone (inl (one, (inl two))) lost1 lost2 = ⊎_elim (λ e. unrisen false r Ckpt1 one e lost1) (λ e. unrisen false r Ckpt2 two e lost2) q.one
+    warm_alone (inl (one, (inr gone))) lost1 lost2 =
+        ⊎_elim (λ reads. stayed Ckpt1 one reads (q.kept1 told) lost1) (λ reads. no (old.lost (Disk Ckpt2)) gone reads.0) (found_reads old (as_found r.lost new) (begins_at end.since r.first) (bytes_of q.pages) (q.found told))
+    warm_alone (inr (two, gone)) lost1 lost2 =
+        ⊎_elim (λ reads. no (old.lost (Disk Ckpt1)) gone reads.0) (λ reads. stayed Ckpt2 two reads (q.kept2 told) lost2) (found_reads old (as_found r.lost new) (begins_at end.since r.first) (bytes_of q.pages) (q.found told))
 
   -- what is said of every run, whether it has begun or not
-  pub not_both : (cold : Bool) → AreLeftAlone script.steps old new → (cold ≡ false → has_begun base ≡ false → IsNotStarted tells status.BothLost old new) → (cold ≡ true → has_begun base ≡ false → (d : Dev) → new.loses d ≡ old.loses d)
-      → (has_begun base ≡ true → IsRun cold tells script answer base J since old new) → WasLost Ckpt1 old new → WasLost Ckpt2 old new → ⊥
-  not_both cold alone unstarted kept run lost1 lost2 = by_begun cold (has_begun base) unstarted kept run refl where
-    by_begun : (c begun : Bool) → (c ≡ false → has_begun base ≡ false → IsNotStarted tells status.BothLost old new) → (c ≡ true → has_begun base ≡ false → (d : Dev) → new.loses d ≡ old.loses d)
-        → (has_begun base ≡ true → IsRun c tells script answer base J since old new) → has_begun base ≡ begun → ⊥
-    by_begun true true not keep has e =
-        let cold_alone : IsRun true tells script answer base J since old new → AreLeftAlone script.steps old new → WasLost Ckpt1 old new → WasLost Ckpt2 old new → ⊥ =
-        λ r alone lost1 lost2. ⊎_elim (λ a. unrisen true r Ckpt1 a.0 (r.before Ckpt1) lost1) (λ a. unrisen true r Ckpt2 a.0 (r.before Ckpt2) lost2) alone in
-        cold_alone (has e) alone lost1 lost2
+  pub not_both : (cold : Bool) → AreLeftAlone script.steps old new → (cold ≡ false → has_begun end.base ≡ false → IsNotStarted tells status.BothLost old new) → (cold ≡ true → has_begun end.base ≡ false → (d : Dev) → new.loses d ≡ old.loses d)
+      → (has_begun end.base ≡ true → IsRun cold tells script old end) → WasLost Ckpt1 old new → WasLost Ckpt2 old new → ⊥
+  not_both cold alone unstarted kept run lost1 lost2 = by_begun cold (has_begun end.base) unstarted kept run refl where
+    by_begun : (c begun : Bool) → (c ≡ false → has_begun end.base ≡ false → IsNotStarted tells status.BothLost old new) → (c ≡ true → has_begun end.base ≡ false → (d : Dev) → new.loses d ≡ old.loses d)
+        → (has_begun end.base ≡ true → IsRun c tells script old end) → has_begun end.base ≡ begun → ⊥
+    by_begun true true not keep has e = let r = has e in ⊎_elim (λ a. unrisen true r Ckpt1 a.0 (r.begun.before Ckpt1) lost1) (λ a. unrisen true r Ckpt2 a.0 (r.begun.before Ckpt2) lost2) alone
     by_begun false true not keep has e = warm_alone (has e) alone lost1 lost2
     by_begun true false not keep has e = ⊎_elim (λ a. unlost Ckpt1 script.steps old new a.0 (keep refl e Ckpt1) lost1) (λ a. unlost Ckpt2 script.steps old new a.0 (keep refl e Ckpt2) lost2) alone
     by_begun false false not keep has e = unstarted_alone script.steps old new alone (not refl e).0.failed

@@ -1,9 +1,11 @@
 -- A line of a member at a scene that the value shows: what is known once it was tested, and what its member may do.
-use Rattle.mas_run.proofs.Names.{inl, inr, ◌≡◌, ℕ, zero, suc, ◌+◌, ◌-◌, true, List, [], ◌∷◌, set, slice_get, slice_set, Option, Some, None, Result, refl, sym, ◌∙◌, ap, subst, arith, ◌⊎◌, ◌<◌, ◌≤◌, ◌++◌, false, length, ◌&&◌, ◌||◌, Bool, if◌then◌else◌, All, is_some, append-nil, MemberId, Batch, Entry, Config, Book, IsMember, after_try, is_stopped, left_of, beginner, granted, is_dormant, is_holder, standing, ticked, try_refusal, wakes, after_stop, left_of as hold_left, runs_keep_configuration, PlantGhosts, Ghosts as CopyGhosts, SteadyGhosts, Complex, kept_all, in_flight, Parts, parts_of, Member, NodeNo, IsTested, Ask, Admission, admitted, tried, granted_by, Given, is_locked, Scene, HasLeftAs, LeftAt, LineDone, line_by, is_of_member, RenewsAs, AreMembers, IsMemberAt, BetweenLines, IsMemberUp, IsBetween, is_left_held, LeftBetween, steps_most, members_most, admission_of, tested_as, earlier_kept, AreKeptFrom, AreEarlier, IsKeptBy, IsPlayed, Grant, Holder, level_most, levels_most, inside_since, tried_since, Since, get_or-set_same, All-weaker, is_somebody, units_most, LockNo, Standing, View, ViewLine as Line, page_count, HasStepKept, IsSeat, first_half, second_half, MayHold, IsQuiet, IsSeatedBy, MayGoOn, levels_for, ByLock, ForStep, Fresh, Task, Work, IsOfEarlier, console_now, OtherNotesStay, IsAtGate, IsOpen, MayTakeSeat, journal_of, Proceeds, journal_still, TellNone, Armed, Counts, flown_of, queue_of, scene_as, copies_at, HasGot, IsUp, holder_is, holder_keeps, inside_of}
+use Rattle.mas_run.proofs.Names.{Admission, All, All-weaker, AreEarlier, AreKeptFrom, AreMembers, Armed, Ask, Batch, BetweenLines, Book, Bool, ByLock, Complex, Config, CopiesKept, Counts, Entry, Err, ForStep, Fresh, Ghosts as CopyGhosts, Given, Grant, HasGot, HasLeftAs, HasStepKept, Holder, HoldsLock, IsAtGate, IsBetween, IsKeptBy, IsMember, IsMemberAt, IsMemberUp, IsOfEarlier, IsPlayed, IsQuiet, IsSeat, IsSeatedBy, IsTested, IsUp, LeftAt, LeftBetween, LineDone, LineIsLeft, List, MayGoOn, MayHold, MayTakeSeat, Member, MemberId, NodeNo, None, OnOk, Option, OtherNotesStay, Parts, PlantGhosts, Proceeds, RenewsAs, Result, Scene, Since, Some, SteadyGhosts, Task, TellNone, View, ViewLine as Line, Work, [], admission_of, admitted, after_stop, after_try, and_none, ap, append-nil, arith, calm, console_now, copies_at, counted, counts_of, earlier_kept, false, flown_of, granted_by, holder_is, holder_keeps, if◌then◌else◌, in_flight, inl, inr, inside_of, inside_since, is_holder, is_left_held, is_locked, is_of_member, is_somebody, is_stopped, journal_of, journal_still, kept_all, left_of, left_of as hold_left, length, level_most, levels_for, levels_most, line_by, members_most, noted, page_count, parts_of, played, queue_of, refl, runs_keep_configuration, scene_as, seated, set, slice_get, slice_set, steps_most, subst, suc, sym, tested_as, tried, tried_since, true, try_refusal, units_most, zero, ℕ, ◌&&◌, ◌++◌, ◌+◌, ◌-◌, ◌<◌, ◌∙◌, ◌∷◌, ◌≡◌, ◌≤◌, ◌⊎◌}
 use Rattle.member_lines.specs.declared.admissions.Admission.{Admission as Admitted}
+use Rattle.member_resets.proofs.BookLemmas.{got_free, same_calls}
+use Rattle.member_resets.proofs.Entering.{gate_with, quiet_with}
 use Rattle.mas_run.proofs.KnownLemmas.{IsKnown, known}
-use Rattle.mas_run.proofs.TurnedLemmas.{quiet_with, earlier_now, earlier_then, held_halted}
-use Rattle.lock_cycle.specs.declared.answers.LockNo.TheVariants as lock
+use Rattle.mas_run.proofs.TurnedLemmas.{earlier_now, earlier_to, held_halted}
+use Rattle.member_node.specs.declared.member.NodeNo.TheVariants as no_node
 
 -- ITS MEMBER
 
@@ -44,6 +46,28 @@ left_so plants copies told S at by what a g x y r adm renews left = record {
 pub done_at : {P C : Type 0} {plants : PlantGhosts P} {steadies : SteadyGhosts C} {copies : CopyGhosts C} (x y : Complex P C plants steadies copies) (ms : List Member) (n : Member)
     (at : ℕ) (by : MemberId) (what : Ask) (r : Result (Unit {0}) NodeNo) (i : ℕ) → i ≡ by.0 - 1 → LineDone x y (set ms (by.0 - 1) n) at by what r → LineDone x y (slice_set ms i n) at by what r
 done_at x y ms n at by what r i is done = subst (λ (k : ℕ). LineDone x y (set ms k n) at by what r) (sym is) done
+
+-- WHAT A LINE DID at a scene, with where the value then stands; and so the line, by what it did at each scene
+
+pub record DoneAt {P C : Type 0} {plants : PlantGhosts P} {steadies : SteadyGhosts C} {copies : CopyGhosts C} (x y : Complex P C plants steadies copies) (ns : List Member) (at : ℕ) (by : MemberId) (what : Ask)
+    (told : Type 0) (S : Scene) (r : Result (Unit {0}) NodeNo) : Type 0 where
+  pub left : (told → is_stopped S.book by ≡ false → counts_of x.printed by ≡ S.counts by) → LeftAt plants copies told S at (line_by by what) (parts_of x) (parts_of y) r
+  pub kept : CopiesKept x y r
+  pub next : OnOk r (BetweenLines y ns (at + 1))
+  pub halted : r ≡ Err no_node.Halted → LeftBetween y ns (at + 1)
+
+module _ {P C : Type 0} {plants : PlantGhosts P} {steadies : SteadyGhosts C} {copies : CopyGhosts C} (x y : Complex P C plants steadies copies) (ns : List Member) (at : ℕ) (by : MemberId) (what : Ask)
+    (r : Result (Unit {0}) NodeNo) (base : y.base ≡ x.base) (since : y.since ≡ x.since) where
+  pub done_of : ((told : Type 0) → IsTold plants told → LineIsLeft told at (line_by by what) x y r) → CopiesKept x y r → OnOk r (BetweenLines y ns (at + 1)) → (r ≡ Err no_node.Halted → LeftBetween y ns (at + 1))
+      → (r ≡ Err no_node.Halted → IsMember x.book by) → LineDone x y ns at by what r
+  done_of left kept next halted seated =
+      record { base = base; since = since; bare = left ⊥ (inl (λ t. t)); told = λ tells. left (Unit {0}) (inr (tt, tells)); copies_kept = kept; next = next; halted = halted; seated = seated }
+
+  pub done_so : ((told : Type 0) → IsTold plants told → (counts : Counts) (armed : List Armed) → DoneAt x y ns at by what told (scene_as (parts_of x) counts armed) r) → (r ≡ Err no_node.Halted → IsMember x.book by)
+      → LineDone x y ns at by what r
+  done_so did seated =
+      let here = did ⊥ (inl (λ t. t)) (counts_of x.printed) [] in
+      done_of (λ told knows counts armed counted. (did told knows counts armed).left (λ o up. counted o by up)) here.kept here.next here.halted seated
 
 -- What is known of a line of a member that was tested, and of its member where that is up or got the lock.
 
@@ -126,14 +150,7 @@ module _ {P C : Type 0} {plants : PlantGhosts P} {steadies : SteadyGhosts C} {co
         record { inside = arm_inside; own = at_m.id; up = at_m.up (ap (λ (k : MemberId). is_stopped x.book k) at_m.id ∙ its.up); back = place }
 
     pub has_turn : HasGot x.base.config x.book by → tested_as x.book by a ≡ after_try x.book by false → {i : ℕ} {m : Member} → InPlace x by i m → HasTurn x mid ms at by what a m
-    has_turn got tried s = record {
-      arm = w;
-      frame = w.frame ∙ ap (λ (b : Book). record (parts_of x) { book = b }) tried;
-      inside = s.inside;
-      got = got;
-      own = s.own;
-      up = s.up;
-    }
+    has_turn got tried s = let frame = w.frame ∙ ap (λ (b : Book). record (parts_of x) { book = b }) tried in assumption (w, frame, got, s)
 
 -- who holds the lock in the line
 pub holder_same : (b : Book) (by : MemberId) (at : ℕ) (h : Holder) (grant was : Grant) → h ≡ record { by = by; step = at; hold = left_of b by; grant = grant } → grant ≡ was
@@ -152,40 +169,20 @@ few_levels _ few = omega arith
 
 -- THE LOCK
 
-module _ (b : Book) (by : MemberId) (up : is_stopped b by ≡ false) (none : try_refusal b by false ≡ None) where
-  none_left_held : is_left_held b ≡ false
-  none_left_held = by_tests (is_holder b by) (is_somebody b.holder) refl refl where
-    and_false : (s : Bool) → (s && false) ≡ false
-    and_false true = refl
-    and_false false = refl
+pub held_up : (b : Book) (by : MemberId) → is_holder b by ≡ true → is_stopped b by ≡ false → is_left_held b ≡ false
+held_up b by holds up =
+    ap (λ (m : MemberId). is_somebody m && is_stopped b m) (holder_is b by holds) ∙ and_none (is_somebody by) (is_stopped b by) up
 
-    -- so no stopped member held it
-    by_tests : (h s : Bool) → is_holder b by ≡ h → is_somebody b.holder ≡ s → is_left_held b ≡ false
-    by_tests true s holds is = ap (λ (t : Bool). is_somebody b.holder && t) (ap (λ (m : MemberId). is_stopped b m) (holder_is b by holds) ∙ up) ∙ and_false (is_somebody b.holder)
-    by_tests false false free is = ap (λ (t : Bool). t && is_stopped b b.holder) is
-    by_tests false true free is = let refusal : Bool → Bool → Bool → Option LockNo = λ stopped holds held. if stopped then Some lock.Down
-        else if holds then None
-        else if held then Some (lock.Busy b.holder)
-        else if is_dormant b by false then Some (lock.Dormant (wakes b by))
-        else None in
-        let refusal_so : (holds held : Bool) → is_holder b by ≡ holds → is_somebody b.holder ≡ held → refusal false holds held ≡ None = λ holds held is is_held. sym (ap (λ (s : Bool). refusal s (is_holder b by) (is_somebody b.holder)) up
-        ∙ ap (λ (h : Bool). refusal false h (is_somebody b.holder)) is
-        ∙ ap (λ (s : Bool). refusal false holds s) is_held)
-        ∙ none in
-        absurd (busy (refusal_so false true free is)) where
-          busy : Some (lock.Busy b.holder) ≡ None → ⊥
-          busy e = absurd (cc)
+-- who got it by a try held it, or nobody did
+none_left_held : (b : Book) (by : MemberId) → is_stopped b by ≡ false → try_refusal b by false ≡ None → is_left_held b ≡ false
+none_left_held b by up none = by_test (is_holder b by) refl where
+  by_test : (h : Bool) → is_holder b by ≡ h → is_left_held b ≡ false
+  by_test true holds = held_up b by holds up
+  by_test false free = ap (λ (t : Bool). t && is_stopped b b.holder) (got_free b by up free none)
 
 -- whoever is up is up once it tried
 pub tested_up : (b : Book) (by : MemberId) → IsMember b by → is_stopped b by ≡ false → is_stopped (after_try b by false) by ≡ false
-tested_up b by inside up = by_tests (is_stopped b by || is_holder b by) (is_some (try_refusal b by false)) where
-  by_tests : (k r : Bool) → is_stopped (if k then b else if r then ticked b false else granted (ticked b false) by) by ≡ false
-  by_tests true r = up
-  by_tests false true = up
-  by_tests false false =
-      let some = inside.0 in
-      let few = inside.1 in
-      ap (λ (s : Standing). s.stopped) (get_or-set_same b.members (by.0 - 1) (record (standing b by) { left = b.hold }) (beginner 0) (omega (arith, some, few))) ∙ up
+tested_up b by inside up = (same_calls by by b).tries b false refl ∙ up
 
 -- THE MEMBER
 
@@ -278,27 +275,9 @@ module _ {P C : Type 0} {plants : PlantGhosts P} {steadies : SteadyGhosts C} {co
   pub may_seat : MayTakeSeat mid m
   may_seat =
       let go = turn_goes (Work 0) (omega arith) in
-      let q = go.aside.quiet in
-      subst (λ (w : Parts P C). IsAtGate plants copies w m) (sym turn.frame) (record {
-        holds = record {
-          may = record { holds = turn.got.holds ∙ sym turn.own; up = λ positive. go.hold.up };
-          some = go.hold.some;
-          few = go.hold.few;
-          seated = go.hold.seated;
-          member = go.member;
-        };
-        at_lock = record { none = q.none; unplaced = q.unplaced; nothing = turn.up.idle.nothing; drawn = turn.up.idle.drawn; many = turn.up.idle.many };
-        unreserved = q.unreserved;
-        first = subst (λ (c : Config). IsOpen plants.tells (first_half plants copies p) c (length p.batches) (length m.room)) go.aside.config q.first;
-        second = subst (λ (c : Config). IsOpen plants.tells (second_half plants copies p) c (length p.batches) (length m.room)) go.aside.config q.second;
-        sound = q.sound;
-        config = go.aside.config;
-        kept = q.kept;
-        begun = q.begun;
-        roomy = q.roomy;
-        noted = go.aside.noted;
-        level = let below = turn.arm.below in omega (arith, below);
-      })
+      let below = turn.arm.below in
+      let holds : HoldsLock b p.base.config m.id = record { may = record { holds = turn.got.holds ∙ sym turn.own; up = λ some. go.hold.up }; some = go.hold.some; few = go.hold.few; seated = go.hold.seated; member = go.member } in
+      subst (λ (w : Parts P C). IsAtGate plants copies w m) (sym turn.frame) (gate_with plants copies (record p { book = b }) m b holds go.aside (omega (arith, below)))
 
   -- IT WAS HALTED with the lock, and gave no batch
 
@@ -306,4 +285,4 @@ module _ {P C : Type 0} {plants : PlantGhosts P} {steadies : SteadyGhosts C} {co
       → OtherNotesStay by p.had (parts_of y).had → (n : Member) → n.id ≡ by → (plants.tells → (ls : List Line) × (console_now (v (parts_of y)) ≡ console_now (v p) ++ ls) × TellNone at ls) → LeftBetween y (set ms (by.0 - 1) n) (at + 1)
   turn_halted y base since book journal goes notes n id wrote =
       held_halted p y base since by turn.inside b turn_since turn.got.holds book goes notes n ms at turn.arm.few turn.arm.is id
-      (subst (λ (bs : List Batch). All (IsOfEarlier (at + 1)) bs) (sym (journal ∙ turn_still)) (earlier_then at p.batches turn_earlier)) wrote
+      (subst (λ (bs : List Batch). All (IsOfEarlier (at + 1)) bs) (sym (journal ∙ turn_still)) (earlier_to at (at + 1) (omega arith) p.batches turn_earlier)) wrote

@@ -1,8 +1,11 @@
 -- The lines of a run in which neither a volume nor a printer failed show what they show where nothing is found lost.
-use Rattle.mas_run.proofs.Names.{◌≡◌, ◌⊎◌, inl, inr, ℕ, ◌+◌, List, [], ◌∷◌, drop, Option, Some, None, Result, Ok, Err, refl, sym, subst, arith, map, take, All, ◌∙◌, ap, zero, suc, if◌then◌else◌, Bool, true, false, ◌++◌, get_or, ◌≢◌, ◌≤◌, length, MemberId, Step, View, NodeNo, Cut, Ends, Sight, clear, Halt, Writing, Given, RightIf, given_first, ArePiecesOf, IsAskRight, flight_met, line_with, none_given, queue_met, sights_of, played_at, LineAt, CutsAs, cut_of, IfOfMember, IsHonest, IsHonestAs, starts, stops, ArePassed, Here, There, here_after, line_of, GoesOn, IsNext, All-head, All-tail, All-weaker, Spool, Ask, Disk, Printer, Rose, whole_pieces, IsFoundAt, Wait, waits_in, printed_found, read_found, FindsJob, FindsOutput, FindsWritten, rose_later, rose_more, Admission, admitted, Plays, Refused, Resets, TakesOver, Unplayed, Piece, is_locked, pieces_found, Play, holder_of, pieces_of, play_of, piece_at, piece_of, pieces_from, unless_told, Scene, scene_of, Armed, flying_in, kept_in, count_then, Played, Outcome, cause_of, flight_then, is_up, played, played_as, played_ask, steps_said_by as said_by, silent, stopped_lines, ask_right, Proceeds, proceeds_none, Entry, Queue, run, Book, after_stop, Finds, task_most, holder_then, calm, examples_text_of as text_of, with_text, on_line, Found, Fresh, Away, Rested, Told, Left, left_by, adds, adds_all, adds_first, adds_part, cut_left, none_left, stopped_by, Counts, outcomes_from, outcomes_if, GroupNo, Text, Read, IsReadAs, IsSpoolLost, all_entries, Sitting, sit, nothing_found, PrintLines, ReadText, SpoolDeck, SpoolOutputs, Holder, State, job_at, output_at, false_from_ne_true}
-use Rattle.mas_run.specs.Unstopped.{AreWhole, PlaysOn}
-use Rattle.mas_run.proofs.PassedLemmas.{by_going, passed_goes}
+use Rattle.mas_run.proofs.Names.{Line as Node, ◌≡◌, ◌⊎◌, inl, inr, ℕ, ◌+◌, List, [], ◌∷◌, drop, Option, Some, None, Result, Ok, Err, refl, sym, subst, arith, map, take, All, ◌∙◌, ap, zero, suc, if◌then◌else◌, Bool, true, false, ◌++◌, get_or, ◌≢◌, length, MemberId, Step, View, NodeNo, Cut, Ends, Sight, clear, Halt, Writing, Given, RightIf, given_first, ArePiecesOf, IsAskRight, flight_met, line_with, queue_met, sights_of, LineAt, CutsAs, cut_of, IfOfMember, IsHonest, IsHonestAs, starts, stops, Here, There, line_of, IsNext, All-head, All-tail, All-weaker, Spool, Ask, Disk, Printer, Rose, whole_pieces, IsFoundAt, Wait, waits_in, printed_found, read_found, FindsJob, FindsOutput, FindsWritten, Admission, admitted, Plays, Piece, is_locked, pieces_found, Play, holder_of, pieces_of, play_of, piece_at, piece_of, pieces_from, unless_told, Scene, scene_of, Armed, flying_in, kept_in, count_then, Played, Outcome, cause_of, flight_then, is_up, played, played_as, played_ask, steps_said_by as said_by, silent, stopped_lines, ask_right, Proceeds, proceeds_none, Entry, Queue, run, after_stop, Finds, task_most, holder_then, calm, examples_text_of as text_of, with_text, on_line, Found, Fresh, Away, Told, Left, left_by, adds, adds_part, stopped_by, Counts, outcomes_from, outcomes_if, GroupNo, Text, Read, IsReadAs, IsSpoolLost, all_entries, Sitting, sit, nothing_found, PrintLines, ReadText, SpoolDeck, SpoolOutputs, Holder, State, job_at, output_at, false_from_ne_true, counted, once_found, outcomes_with, with_count, Part}
+use Rattle.mas_run.specs.Unstopped.{IsWhole, PlaysOn}
+use Rattle.mas_run.specs.Passed.{AreEach}
+use Rattle.mas_run.proofs.AlikeLemmas.{Alike, LastPiece, MorePieces, NoPieces, alike_same, left_alike}
+use Rattle.mas_run.proofs.EachLemmas.{each_line}
 use Rattle.run_turns.specs.Alone.{shown, Shown}
+use Rattle.run_turns.proofs.Locks.{unless_not}
 use Rattle.mas_run.specs.Calm.{FindNone, NoneFailed, calm_but, calmed}
 use Rattle.std.specs.Option.{option_map_or}
 use Rattle.mas_types.specs.declared.ids.JobNo.{JobNo}
@@ -25,26 +28,13 @@ whole_cut (Ok done) by (Some cut) old new none so = absurd (let rose = so.2 in o
 whole_cut (Err e) by (Some cut) old new none so = inr (cut, refl, so.0)
 
 -- a member's count that is 0 at the end is 0 after each line
-passed_whole : (told : Type 0) (m : ℕ) (h : Here) (gs : List Given) (steps : List Step) (many : ℕ) (end : There)
-    → end.view.stops m ≡ 0 → ArePassed told h gs steps many end → AreWhole m h.scene h.number gs steps
-passed_whole told m h gs [] many end none p = tt
-passed_whole told m h gs (step ∷ steps) many end none (there, more, is, next, rest) =
-    let none_after : (told : Type 0) (m : ℕ) (h : Here) (gs : List Given) (steps : List Step) (many : ℕ) (end : There) → end.view.stops m ≡ 0 → ArePassed told h gs steps many end → h.view.stops m ≡ 0 = λ told m h gs steps many end none p. let goes = passed_goes told h gs steps many end p in
-    omega (arith, goes.stops m, none) in
-    let g = given_first gs in
-    let p = played_at (line_of h g step) in
-    let here : there.view.stops m ≡ 0 = by_going p.goes_on (λ b. there.view.stops m ≡ 0) rest
-    (λ x. none_after told m (here_after h g step there) (drop 1 gs) steps more end none x.1)
-    (λ e. subst (λ (x : There). x.view.stops m ≡ 0) e.0 none) in (
-      (λ by. whole_cut there.answer step.by (cut_of (line_of h g step)) h.view there.view
-          (subst (λ (n : ℕ). there.view.stops n ≡ 0) (sym by) here) next.passed.cut),
-      by_going p.goes_on (λ b. RightIf b (AreWhole m p.next (h.number + 1) (drop 1 gs) steps)) rest
-          (λ x. passed_whole told m (here_after h g step there) (drop 1 gs) steps more end none x.1)
-          (λ e. tt),
-    )
-
 pub plays_on : (told : Type 0) → PlaysOn told
-plays_on told m b e p none = passed_whole told m (starts b) p.given b.steps e.many (stops e p.result) none p.passed
+plays_on told m b e p none = each_line told (λ (l : LineAt). l.step.by.0 ≡ m → IsWhole l) (λ steps h. Unit {0}) (stops b e p.result)
+    (λ h g step steps there is next goes. (
+      (λ by. whole_cut there.answer step.by (cut_of (line_of h g step)) h.view there.view
+          (let now : there.view.stops m ≡ 0 = omega (arith, goes.stops m, none) in subst (λ (n : ℕ). there.view.stops n ≡ 0) (sym by) now) next.passed.cut),
+      tt,
+    )) (starts b) p.given b.steps e.many tt p.passed
 
 -- WHAT WAS FOUND
 
@@ -72,46 +62,37 @@ module _ (per : ℕ) (by : MemberId) (old new : View) (volumes : (n : ℕ) → R
       ∙ ap read_found (read_calm is.output.text _ found.read is.as_had)
       ∙ sym (ap (λ (p : Option Output). option_map_or (λ (o : Output). with_text o.text) p nothing_found) is.there)
 
-  off_calm : (Q : Queue) (s : State) (found : Found) → on_line s ≡ false → IsFoundAt per by old new Q s found → found ≡ calm Q s
-  off_calm Q (Away (SpoolDeck n text)) found off is = written_calm _ found is
-  off_calm Q (Away (ReadText runs n fields p)) found off is =
-      let job_calm : (Q : Queue) (n : JobNo) (found : Found) → FindsJob per Q n found old new → found ≡ option_map_or (λ (j : Job). with_text j.text) (job_at Q n) nothing_found = λ Q n found is. is.only ∙ ap read_found (read_calm is.job.text _ found.read is.as_had)
-      ∙ sym (ap (λ (o : Option Job). option_map_or (λ (j : Job). with_text j.text) o nothing_found) is.there) in
-      job_calm Q n found is
-  off_calm Q (Away (SpoolOutputs n specs p)) found off is = written_calm _ found is
-  off_calm Q (Away (PrintLines n i last p)) found off is = output_calm Q n i found is
-  off_calm Q (Fresh task) found off is = is
-  off_calm Q (Rested p) found off is = is
-  off_calm Q Told found off is = is
-  off_calm Q _ found off is = absurd (cc)
+  job_calm : (Q : Queue) (n : JobNo) (found : Found) → FindsJob per Q n found old new → found ≡ option_map_or (λ (j : Job). with_text j.text) (job_at Q n) nothing_found
+  job_calm Q n found is = is.only ∙ ap read_found (read_calm is.job.text _ found.read is.as_had) ∙ sym (ap (λ (o : Option Job). option_map_or (λ (j : Job). with_text j.text) o nothing_found) is.there)
 
   found_calm : (finds : Finds) (Q : Queue) (s : State) → IsFoundAt per by old new Q s (finds Q s) → finds Q s ≡ calm_but finds Q s
-  found_calm finds Q s is = by_line (on_line s) refl where
-    by_line : (line : Bool) → on_line s ≡ line → finds Q s ≡ (if line then finds Q s else calm Q s)
-    by_line true on = refl
-    by_line false off = off_calm Q s (finds Q s) off is
+  found_calm finds Q (Away (SpoolDeck n text)) is = written_calm _ _ is
+  found_calm finds Q (Away (ReadText runs n fields p)) is = job_calm Q n _ is
+  found_calm finds Q (Away (SpoolOutputs n specs p)) is = written_calm _ _ is
+  found_calm finds Q (Away (PrintLines n i last p)) is = output_calm Q n i _ is
+  found_calm finds Q (Away _) is = refl
+  found_calm finds Q (Fresh (Node l)) is = refl
+  found_calm finds Q _ is = is
 
 -- THE SITTINGS are the same in so many pieces, and in the one after them
 
-data Alike : ℕ → List Piece → List Piece → Type 0 where
-  NoPieces : {n : ℕ} → Alike n [] []
-  LastPiece : (p q : Piece) (ps qs : List Piece) → p.sitting ≡ q.sitting → Alike zero (p ∷ ps) (q ∷ qs)
-  MorePieces : {n : ℕ} (p q : Piece) (ps qs : List Piece) → p.sitting ≡ q.sitting → Alike n ps qs → Alike (suc n) (p ∷ ps) (q ∷ qs)
+-- such pieces have the same sittings
+abbrev SameSitting : Piece → Piece → Type 0
+SameSitting p q = p.sitting ≡ q.sitting
 
-unless_alike : (n : ℕ) (s : State) (ps qs : List Piece) → (s ≢ Told → Alike n ps qs) → Alike n (unless_told s ps) (unless_told s qs)
+abbrev AreAlike : ℕ → List Piece → List Piece → Type 0
+AreAlike n ps qs = Alike SameSitting n ps qs
+
+unless_alike : (n : ℕ) (s : State) (ps qs : List Piece) → (s ≢ Told → AreAlike n ps qs) → AreAlike n (unless_told s ps) (unless_told s qs)
 unless_alike n Told ps qs alike = NoPieces
 unless_alike n _ ps qs alike = alike (λ e. absurd (cc))
-
-unless_same : (s : State) (ps : List Piece) → s ≢ Told → unless_told s ps ≡ ps
-unless_same Told ps untold = absurd (untold refl)
-unless_same _ ps untold = refl
 
 module _ (sight : Sight) where
   abbrev IsCalm : Wait → Type 0
   IsCalm w = sight.finds w.queue w.state ≡ calm_but sight.finds w.queue w.state
 
   from_alike : (more n count count' : ℕ) (Q : Queue) (h : Holder) (s : State) → sit Q h s (sight.finds Q s) ≡ sit Q h s (calm_but sight.finds Q s)
-      → All IsCalm (waits_in (take n (pieces_from more sight count Q h s)) Q) → Alike n (pieces_from more sight count Q h s) (pieces_from more (calmed sight) count' Q h s)
+      → All IsCalm (waits_in (take n (pieces_from more sight count Q h s)) Q) → AreAlike n (pieces_from more sight count Q h s) (pieces_from more (calmed sight) count' Q h s)
   from_alike zero n count count' Q h s same calms = NoPieces
   from_alike (suc more) zero count count' Q h s same calms = LastPiece _ _ _ _ same
   from_alike (suc more) (suc n) count count' Q h s same calms =
@@ -122,59 +103,31 @@ module _ (sight : Sight) where
       let rest = pieces_from more sight (count_then h.by (all_entries t.batches) count + length p.printed) Q' (holder_then Q h (all_entries t.batches)) t.next in
       let q = piece_at (calmed sight) count' Q h s in
       MorePieces p q _ _ same
-      (subst (λ (u : Sitting). Alike n (unless_told t.next rest)
+      (subst (λ (u : Sitting). AreAlike n (unless_told t.next rest)
       (unless_told u.next (pieces_from more (calmed sight) (count_then h.by (all_entries u.batches) count' + length q.printed) (run Q (all_entries u.batches)) (holder_then Q h (all_entries u.batches)) u.next)))
       same
       (unless_alike n t.next rest _ (λ untold. from_alike more n _ _ Q' (holder_then Q h (all_entries t.batches)) t.next
       (ap (λ (f : Found). sit Q' (holder_then Q h (all_entries t.batches)) t.next f) (All-head IsCalm w (waits_in (take n (unless_told t.next rest)) Q') calms))
-      (subst (λ (ps : List Piece). All IsCalm (waits_in (take n ps) Q')) (unless_same t.next rest untold) (All-tail IsCalm w (waits_in (take n (unless_told t.next rest)) Q') calms)))))
+      (subst (λ (ps : List Piece). All IsCalm (waits_in (take n ps) Q')) (unless_not h.by t.next rest untold) (All-tail IsCalm w (waits_in (take n (unless_told t.next rest)) Q') calms)))))
 
 -- WHAT IS LEFT, but what was printed
 
-module _ (by : MemberId) (locked : Bool) where
+module _ (by : MemberId) where
   abbrev bare : Left → Left
   bare l = record l { printed = []; prints = 0; given = []; count = 0 }
 
-  one_bare : (l m : Left) (p q : Piece) → bare l ≡ bare m → p.sitting ≡ q.sitting → bare (adds by locked l p) ≡ bare (adds by locked m q)
-  one_bare l m p q e same =
-      ap (λ (k : Left). bare (adds by locked k (piece_of p.sitting false []))) e ∙ ap (λ (t : Sitting). bare (adds by locked (bare m) (piece_of t false []))) same
-
-  all_bare : {n : ℕ} {ps qs : List Piece} → Alike n ps qs → length ps ≤ n → (l m : Left) → bare l ≡ bare m → bare (adds_all by locked l ps) ≡ bare (adds_all by locked m qs)
-  all_bare NoPieces few l m e = e
-  all_bare (LastPiece p q ps qs same) few l m e = absurd (omega (arith, few))
-  all_bare (MorePieces p q ps qs same more) few l m e = all_bare more (omega (arith, few)) (adds by locked l p) (adds by locked m q) (one_bare l m p q e same)
-
-  part_bare : (halt : Halt) (l m : Left) (p q : Piece) → bare l ≡ bare m → p.sitting ≡ q.sitting → bare (adds_part by locked halt l p) ≡ bare (adds_part by locked halt m q)
-  part_bare (Writing n b) l m p q e same =
+  part_bare : (locked : Bool) (halt : Halt) (l m : Left) (p q : Piece) → bare l ≡ bare m → SameSitting p q → bare (adds_part by locked halt l p) ≡ bare (adds_part by locked halt m q)
+  part_bare locked (Writing n b) l m p q e same =
       ap (λ (k : Left). bare (adds_part by locked (Writing n b) k (piece_of p.sitting false []))) e ∙ ap (λ (t : Sitting). bare (adds_part by locked (Writing n b) (bare m) (piece_of t false []))) same
-  part_bare another l m p q e same =
+  part_bare locked another l m p q e same =
       ap (λ (k : Left). bare (adds_part by locked another k (piece_of p.sitting false []))) e ∙ ap (λ (t : Sitting). bare (adds_part by locked another (bare m) (piece_of t false []))) same
 
-  first_bare : (halt : Halt) {n : ℕ} {ps qs : List Piece} → Alike n ps qs → (l m : Left) → bare l ≡ bare m
-      → bare (adds_first by locked halt (adds_all by locked l (take n ps)) (drop n ps)) ≡ bare (adds_first by locked halt (adds_all by locked m (take n qs)) (drop n qs))
-  first_bare halt {n} NoPieces l m e = none n where
-    none : (k : ℕ) → bare (adds_first by locked halt (adds_all by locked l (take k [])) (drop k [])) ≡ bare (adds_first by locked halt (adds_all by locked m (take k [])) (drop k []))
-    none zero = e
-    none (suc k) = e
-  first_bare halt (LastPiece p q ps qs same) l m e = part_bare halt l m p q e same
-  first_bare halt (MorePieces p q ps qs same more) l m e = first_bare halt more (adds by locked l p) (adds by locked m q) (one_bare l m p q e same)
-
   -- a line's pieces, whole or cut
-  left_bare : (cut : Option Cut) (play rest : Play) (count count' : ℕ) → play.locked ≡ locked → rest.locked ≡ locked → rest.book ≡ play.book
-      → Alike (whole_pieces cut play.pieces) play.pieces rest.pieces → bare (left_by by cut play count) ≡ bare (left_by by cut rest count')
-  left_bare None play rest count count' here there book alike =
-      ap (λ (k : Bool). bare (adds_all by k (none_left by play.book count) play.pieces)) here
-      ∙ all_bare alike (omega arith) (none_left by play.book count) (none_left by rest.book count') (ap (λ b. bare (none_left by b 0)) (sym book))
-      ∙ sym (ap (λ (k : Bool). bare (adds_all by k (none_left by rest.book count') rest.pieces)) there)
-  left_bare (Some cut) play rest count count' here there book alike =
-      ap (λ (k : Bool). bare (cut_left by cut.cause (adds_first by k cut.halt (adds_all by k (none_left by play.book count) (take cut.sittings play.pieces)) (drop cut.sittings play.pieces)))) here
-      ∙ ap (λ (l : Left). record l { book = stopped_by by cut.cause l.book }) (first_bare cut.halt alike (none_left by play.book count) (none_left by rest.book count') (ap (λ b. bare (none_left by b 0)) (sym book)))
-      ∙ sym (ap (λ (k : Bool). bare (cut_left by cut.cause (adds_first by k cut.halt (adds_all by k (none_left by rest.book count') (take cut.sittings rest.pieces)) (drop cut.sittings rest.pieces)))) there)
-
-alike_same : (n : ℕ) (ps : List Piece) → Alike n ps ps
-alike_same n [] = NoPieces
-alike_same zero (p ∷ ps) = LastPiece p p ps ps refl
-alike_same (suc n) (p ∷ ps) = MorePieces p p ps ps refl (alike_same n ps)
+  left_bare : (cut : Option Cut) (play : Play) (qs : List Piece) (c d : ℕ) → AreAlike (whole_pieces cut play.pieces) play.pieces qs → bare (left_by by cut play c) ≡ bare (left_by by cut (record play { pieces = qs }) d)
+  left_bare cut play qs c d alike =
+      left_alike by play SameSitting (λ (l m : Left). bare l ≡ bare m)
+      (λ l m p q e same. ap (λ (k : Left). bare (adds by play.locked k (piece_of p.sitting false []))) e ∙ ap (λ (t : Sitting). bare (adds by play.locked (bare m) (piece_of t false []))) same)
+      (part_bare play.locked) (λ why l m e. ap (λ (k : Left). record k { book = stopped_by by why k.book }) e) cut qs c d alike refl
 
 -- the scene with other counts of printed lines, and other prints before stops that are armed
 abbrev but_prints : Scene → Counts → List Armed → Scene
@@ -195,10 +148,7 @@ IsCalmLine S by at sight a =
     All (IsCalm sight) (waits_in (take (whole_pieces sight.cut p.pieces) p.pieces) p.queue)
 
 abbrev IsCalmAsk : Scene → MemberId → ℕ → Sight → Ask → Type 0
-IsCalmAsk S by at sight ask.Stop = Unit {0}
-IsCalmAsk S by at sight (ask.StopIn fuse n) = Unit {0}
-IsCalmAsk S by at sight (ask.Lose dev) = Unit {0}
-IsCalmAsk S by at sight what = IsCalmLine S by at sight (admitted S.queue.config S.book by what)
+IsCalmAsk S by at sight what = IfOfMember what (IsCalmLine S by at sight (admitted S.queue.config S.book by what))
 
 module _ (S : Scene) (c : Counts) (armed : List Armed) (by : MemberId) (at : ℕ) (sight : Sight) where
   abbrev T : Scene
@@ -206,17 +156,9 @@ module _ (S : Scene) (c : Counts) (armed : List Armed) (by : MemberId) (at : ℕ
 
   -- THE PIECES
 
-  pieces_alike : (n : ℕ) (Q : Queue) (a : Admission) → All (IsCalm sight) (waits_in (take n (pieces_of S by at sight Q a)) Q) → Alike n (pieces_of S by at sight Q a) (pieces_of T by at (calmed sight) Q a)
+  pieces_alike : (n : ℕ) (Q : Queue) (a : Admission) → All (IsCalm sight) (waits_in (take n (pieces_of S by at sight Q a)) Q) → AreAlike n (pieces_of S by at sight Q a) (pieces_of T by at (calmed sight) Q a)
   pieces_alike n Q (Plays task) calms = from_alike sight (task_most task) n (S.counts by) (c by) Q (holder_of S by at (Plays task)) (Fresh task) refl calms
-  pieces_alike n Q (Resets of) calms = alike_same n (pieces_of S by at sight Q (Resets of))
-  pieces_alike n Q (TakesOver of) calms = alike_same n (pieces_of S by at sight Q (TakesOver of))
-  pieces_alike n Q another calms = alike_same n (pieces_of S by at sight Q another)
-
-  found_alike : (locked : Bool) (flight : Option (List Entry)) (n : ℕ) (ps qs : List Piece) (Q : Queue) → (All (IsCalm sight) (waits_in (take n ps) Q) → Alike n ps qs)
-      → All (IsCalm sight) (waits_in (take n (pieces_found locked flight ps)) Q) → Alike n (pieces_found locked flight ps) (pieces_found locked flight qs)
-  found_alike true None n ps qs Q alike calms = alike calms
-  found_alike true (Some es) n ps qs Q alike calms = NoPieces
-  found_alike false flight n ps qs Q alike calms = alike calms
+  pieces_alike n Q another calms = alike_same SameSitting (λ p. refl) n (pieces_of S by at sight Q another)
 
   -- A LINE OF A MEMBER
 
@@ -226,118 +168,96 @@ module _ (S : Scene) (c : Counts) (armed : List Armed) (by : MemberId) (at : ℕ
   abbrev there : Admission → Play
   there a = play_of T by at (calmed sight) a
 
-  play_same : (a : Admission) → there a ≡ record (here a) { pieces = (there a).pieces }
-  play_same (Refused sayer end) = refl
-  play_same _ = refl
-
-  play_alike : (a : Admission) → IsCalmLine S by at sight a → Alike (whole_pieces sight.cut (here a).pieces) (here a).pieces (there a).pieces
-  play_alike (Plays task) calms = found_alike true _ _ _ _ _ (pieces_alike _ _ (Plays task)) calms
-  play_alike Unplayed calms = alike_same (whole_pieces sight.cut (here Unplayed).pieces) (here Unplayed).pieces
-  play_alike another calms = alike_same _ (here another).pieces
+  play_alike : (a : Admission) → IsCalmLine S by at sight a → AreAlike (whole_pieces sight.cut (here a).pieces) (here a).pieces (there a).pieces
+  play_alike (Plays task) calms = found_alike S.flight calms where
+    found_alike : (flight : Option (List Entry)) → let ps = once_found flight (pieces_of S by at sight S.queue (Plays task)) in All (IsCalm sight) (waits_in (take (whole_pieces sight.cut ps) ps) S.queue)
+        → AreAlike (whole_pieces sight.cut ps) ps (once_found flight (pieces_of T by at (calmed sight) S.queue (Plays task)))
+    found_alike None calms = pieces_alike _ S.queue (Plays task) calms
+    found_alike (Some es) calms = NoPieces
+  play_alike another calms = alike_same SameSitting (λ p. refl) _ (here another).pieces
 
   -- what a line with this play leaves
   as_same : (a : Admission) → IsCalmLine S by at sight a → ShowSame (played_as S by at sight a) (played_as T by at (calmed sight) a)
-  as_same a calms = let left_so : Play → ℕ → Left = λ play count. left_by by sight.cut play count in
-      let left_same : (a : Admission) → IsCalmLine S by at sight a → bare by (here a).locked (left_so (here a) (S.counts by)) ≡ bare by (here a).locked (left_so (there a) (c by)) =
-      λ a calms. left_bare by (here a).locked sight.cut (here a) (there a) (S.counts by) (c by) refl (ap (λ (p : Play). p.locked) (play_same a)) (ap (λ (p : Play). p.book) (play_same a)) (play_alike a calms) in
-      let e = left_same a calms in
-      let p = played_as S by at sight a in
-      let q = played_as T by at (calmed sight) a in
-      let why = cause_of sight.cut in
+  as_same a calms =
+      let play : Play = here a in
+      let left : Left = left_by by sight.cut (there a) (c by) in
+      let e : bare by (left_by by sight.cut play (S.counts by)) ≡ bare by left = left_bare by sight.cut play (there a).pieces (S.counts by) (c by) (play_alike a calms) in
       record {
-        show =
-            ap (λ (l : Left). (l.batches, map (said_by (here a).sayer) l.lines ++ stopped_lines by at why)) e
-            ∙ sym (ap (λ (r : Play). ((left_so (there a) (c by)).batches, map (said_by r.sayer) (left_so (there a) (c by)).lines ++ stopped_lines by at why)) (play_same a));
+        show = ap (λ (l : Left). (l.batches, map (said_by play.sayer) l.lines ++ stopped_lines by at (cause_of sight.cut))) e;
         goes = refl;
-        counts = q.next.counts;
-        armed = q.next.armed;
-        next =
-            ap (λ (r : Play). let N : Scene = record {
-              queue = run r.queue (kept_in (left_so (there a) (c by)).batches);
-              book = (left_so (there a) (c by)).book;
-              flight = flight_then (flying_in (left_so (there a) (c by)).batches) r.flight;
-              counts = q.next.counts;
-              armed = q.next.armed;
-            } in N) (play_same a)
-            ∙ sym (ap (λ (l : Left). let N : Scene = record {
-              queue = run (here a).queue (kept_in l.batches);
-              book = l.book;
-              flight = flight_then (flying_in l.batches) (here a).flight;
-              counts = q.next.counts;
-              armed = q.next.armed;
-            } in N) e);
+        counts = with_count by left.count c;
+        armed = counted by left.prints armed;
+        next = ap (λ (l : Left). let N : Scene = record {
+          queue = run play.queue (kept_in l.batches);
+          book = l.book;
+          flight = flight_then (flying_in l.batches) play.flight;
+          counts = with_count by left.count c;
+          armed = counted by left.prints armed;
+        } in N) (sym e);
       }
 
   -- ANY LINE
 
-  stop_same : (up : Bool) (b : Book) → ShowSame (if up then silent (record S { book = b }) else silent S) (if up then silent (record T { book = b }) else silent T)
-  stop_same true b = record { show = refl; goes = refl; counts = c; armed = armed; next = refl }
-  stop_same false b = record { show = refl; goes = refl; counts = c; armed = armed; next = refl }
-
-  arm_same : (up : Bool) (more : List Armed) → ShowSame (if up then silent (record S { armed = S.armed ++ more }) else silent S) (if up then silent (record T { armed = T.armed ++ more }) else silent T)
-  arm_same true more = record { show = refl; goes = refl; counts = c; armed = armed ++ more; next = refl }
-  arm_same false more = record { show = refl; goes = refl; counts = c; armed = armed; next = refl }
+  -- of a member that is up
+  up_same : (up : Bool) (N : Scene) (more : List Armed) → ShowSame (if up then silent N else silent S) (if up then silent (but_prints N c more) else silent T)
+  up_same true N more = record { show = refl; goes = refl; counts = c; armed = more; next = refl }
+  up_same false N more = record { show = refl; goes = refl; counts = c; armed = armed; next = refl }
 
   ask_same : (what : Ask) → IsCalmAsk S by at sight what → ShowSame (played_ask S by at sight what) (played_ask T by at (calmed sight) what)
-  ask_same ask.Stop calms = stop_same (is_up S by) (after_stop S.book by)
-  ask_same (ask.StopIn fuse n) calms = arm_same (is_up S by) (record { member = by; fuse = fuse; left = n } ∷ [])
+  ask_same ask.Stop calms = up_same (is_up S by) (record S { book = after_stop S.book by }) armed
+  ask_same (ask.StopIn fuse n) calms = let a : Armed = record { member = by; fuse = fuse; left = n } in up_same (is_up S by) (record S { armed = S.armed ++ a ∷ [] }) (armed ++ a ∷ [])
   ask_same (ask.Lose dev) calms = record { show = refl; goes = refl; counts = c; armed = armed; next = refl }
   ask_same another calms = as_same (admitted S.queue.config S.book by another) calms
 
--- LINES, each of which was calm that was played
+-- LINES, each of which was calm that was played, with the pieces that its queue gives
 
-abbrev AreCalm : Scene → ℕ → List Sight → List Step → Type 0
-AreCalm S at sights [] = Unit {0}
-AreCalm S at sights (step ∷ steps) =
-    let s = get_or sights 0 clear in
-    IsCalmAsk S step.by at s step.what × RightIf (played S at s step).goes_on (AreCalm (played S at s step).next (at + 1) (drop 1 sights) steps)
+abbrev IsCalmAt : LineAt → Type 0
+IsCalmAt l = IsAskRight l.scene l.step.by l.number l.given l.step.what × IsCalmAsk l.scene l.step.by l.number l.given.sight l.step.what
 
 one_found : (line : Bool) (found : Found) → (if line then found else found) ≡ found
 one_found true found = refl
 one_found false found = refl
 
 -- what is calm already stays
-first_sight : (sights : List Sight) → get_or (map calmed sights) 0 clear ≡ calmed (get_or sights 0 clear)
+first_sight : (gs : List Given) → get_or (map calmed (sights_of gs)) 0 clear ≡ calmed (given_first gs).sight
 first_sight [] = let calm_stays : calm_but calm ≡ calm = λ i Q s. one_found (on_line s) (calm Q s) i in ap (λ (finds : Finds). record clear { finds = finds }) (sym calm_stays)
-first_sight (s ∷ ss) = refl
+first_sight (g ∷ gs) = refl
 
-rest_sights : (sights : List Sight) → drop 1 (map calmed sights) ≡ map calmed (drop 1 sights)
+rest_sights : (gs : List Given) → drop 1 (map calmed (sights_of gs)) ≡ map calmed (sights_of (drop 1 gs))
 rest_sights [] = refl
-rest_sights (s ∷ ss) = refl
+rest_sights (g ∷ gs) = refl
 
 if_same : (b : Bool) {R : Type 0} (os qs : List Outcome) → RightIf b R → (R → map shown os ≡ map shown qs) → map shown (outcomes_if b os) ≡ map shown (outcomes_if b qs)
 if_same true os qs right same = same right
 if_same false os qs right same = refl
 
-lines_same : (steps : List Step) (S : Scene) (c : Counts) (armed : List Armed) (at : ℕ) (sights : List Sight) → AreCalm S at sights steps
-    → map shown (outcomes_from S at sights steps) ≡ map shown (outcomes_from (but_prints S c armed) at (map calmed sights) steps)
-lines_same [] S c armed at sights calms = refl
-lines_same (step ∷ steps) S c armed at sights calms =
-    let s = get_or sights 0 clear in
-    let p = played S at s step in
-    let q = played (but_prints S c armed) at (calmed s) step in
-    let same = ask_same S c armed step.by at s step.what calms.0 in
-    let rest = drop 1 sights in
-    ap (λ (o : Shown). o ∷ map shown (outcomes_if p.goes_on (outcomes_from p.next (at + 1) rest steps))) same.show
+lines_same : (gs : List Given) (steps : List Step) (S : Scene) (c : Counts) (armed : List Armed) (at : ℕ) → AreEach IsCalmAt S at gs steps
+    → map shown (outcomes_with S at gs steps) ≡ map shown (outcomes_from (but_prints S c armed) at (map calmed (sights_of gs)) steps)
+lines_same gs [] S c armed at calms = refl
+lines_same gs (step ∷ steps) S c armed at calms =
+    let g = given_first gs in
+    let p = line_with S at g step in
+    let q = played (but_prints S c armed) at (calmed g.sight) step in
+    let same : ShowSame p q = subst (λ (r : Played). ShowSame r q) (sym (ask_right S step.by at g step.what calms.0.0)) (ask_same S c armed step.by at g.sight step.what calms.0.1) in
+    let rest = drop 1 gs in
+    let sights = map calmed (sights_of rest) in
+    ap (λ (o : Shown). o ∷ map shown (outcomes_if p.goes_on (outcomes_with p.next (at + 1) rest steps))) same.show
     ∙ ap (λ (os : List Shown). shown q.outcome ∷ os)
-    (if_same p.goes_on (outcomes_from p.next (at + 1) rest steps) (outcomes_from (but_prints p.next same.counts same.armed) (at + 1) (map calmed rest) steps) calms.1
-    (λ more. lines_same steps p.next same.counts same.armed (at + 1) rest more))
-    ∙ ap (λ (N : Scene). shown q.outcome ∷ map shown (outcomes_if p.goes_on (outcomes_from N (at + 1) (map calmed rest) steps))) (sym same.next)
-    ∙ ap (λ (b : Bool). shown q.outcome ∷ map shown (outcomes_if b (outcomes_from q.next (at + 1) (map calmed rest) steps))) same.goes
-    ∙ ap (λ (ss : List Sight). shown q.outcome ∷ map shown (outcomes_if q.goes_on (outcomes_from q.next (at + 1) ss steps))) (sym (rest_sights sights))
-    ∙ ap (λ (x : Sight). let r = played (but_prints S c armed) at x step in shown r.outcome ∷ map shown (outcomes_if r.goes_on (outcomes_from r.next (at + 1) (drop 1 (map calmed sights)) steps)))
-    (sym (first_sight sights))
+    (if_same p.goes_on (outcomes_with p.next (at + 1) rest steps) (outcomes_from (but_prints p.next same.counts same.armed) (at + 1) sights steps) calms.1
+    (λ more. lines_same rest steps p.next same.counts same.armed (at + 1) more))
+    ∙ ap (λ (N : Scene). shown q.outcome ∷ map shown (outcomes_if p.goes_on (outcomes_from N (at + 1) sights steps))) (sym same.next)
+    ∙ ap (λ (b : Bool). shown q.outcome ∷ map shown (outcomes_if b (outcomes_from q.next (at + 1) sights steps))) same.goes
+    ∙ ap (λ (ss : List Sight). shown q.outcome ∷ map shown (outcomes_if q.goes_on (outcomes_from q.next (at + 1) ss steps))) (sym (rest_sights gs))
+    ∙ ap (λ (x : Sight). let r = played (but_prints S c armed) at x step in shown r.outcome ∷ map shown (outcomes_if r.goes_on (outcomes_from r.next (at + 1) (drop 1 (map calmed (sights_of gs))) steps)))
+    (sym (first_sight gs))
 
 -- what didn't fail in a run didn't fail in a part of it
 none_within : (steps : List Step) (old mid new late : View) → Proceeds old mid → Proceeds new late → NoneFailed steps old late → NoneFailed steps mid new
-none_within steps old mid new late before after none = record {
-  volumes = λ n rose. none.volumes n (rose_later (old.faults (Disk (Spool n))) (mid.faults (Disk (Spool n))) (late.faults (Disk (Spool n))) (before.faults (Disk (Spool n)))
-      (rose_more (mid.faults (Disk (Spool n))) (new.faults (Disk (Spool n))) (late.faults (Disk (Spool n))) rose (after.faults (Disk (Spool n)))));
-  printers = All-weaker (λ (s : Step). Rose (old.faults (Printer s.by)) (late.faults (Printer s.by)) → ⊥) (λ (s : Step). Rose (mid.faults (Printer s.by)) (new.faults (Printer s.by)) → ⊥)
-      (λ s still rose.
-      let p = Printer s.by in
-      still (rose_later (old.faults p) (mid.faults p) (late.faults p) (before.faults p) (rose_more (mid.faults p) (new.faults p) (late.faults p) rose (after.faults p)))) steps none.printers;
-}
+none_within steps old mid new late before after none =
+    let within : (p : Part) → (Rose (old.faults p) (late.faults p) → ⊥) → Rose (mid.faults p) (new.faults p) → ⊥ = λ p still rose. still (omega (arith, before.faults p, rose, after.faults p)) in record {
+      volumes = λ n. within (Disk (Spool n)) (none.volumes n);
+      printers = All-weaker (λ (s : Step). Rose (old.faults (Printer s.by)) (late.faults (Printer s.by)) → ⊥) (λ (s : Step). Rose (mid.faults (Printer s.by)) (new.faults (Printer s.by)) → ⊥) (λ s. within (Printer s.by)) steps none.printers;
+    }
 
 -- A LINE
 
@@ -363,42 +283,20 @@ module _ (S : Scene) (by : MemberId) (at : ℕ) (g : Given) (old new : View) (vo
 
 -- LINES
 
-abbrev RestOf : Here → Given → List Given → Step → List Step → There → ℕ → There → Type 0
-RestOf h g gs step steps there more end =
-    GoesOn (line_with h.scene h.number g step).goes_on ((there.answer ≡ Ok tt) × ArePassed (Unit {0}) (here_after h g step there) gs steps more end)
-    ((end ≡ there) × (more ≡ 0))
-
-calm_on : (h : Here) (g : Given) (gs : List Given) (step : Step) (steps : List Step) (there : There) (more : ℕ) (end : There) → NoneFailed (step ∷ steps) h.view end.view
-    → IsNext (Unit {0}) h g step there → RestOf h g gs step steps there more end
-    → (NoneFailed steps there.view end.view → ArePassed (Unit {0}) (here_after h g step there) gs steps more end → AreCalm (line_with h.scene h.number g step).next (h.number + 1) (sights_of gs) steps)
-    → AreCalm h.scene h.number (g.sight ∷ sights_of gs) (step ∷ steps)
-calm_on h g gs step steps there more end none next rest again =
-    let S = h.scene in
-    let at = h.number in
-    let p = line_with S at g step in
-    let right = next.passed.given.right tt in
+calm_line : (last : View) (h : Here) (g : Given) (step : Step) (steps : List Step) (there : There) → NoneFailed (step ∷ steps) h.view last → IsNext (Unit {0}) h g step there → Proceeds there.view last
+    → IsCalmAt (line_of h g step) × NoneFailed steps there.view last
+calm_line last h g step steps there none next goes =
     let ones = λ (old new : View) (s : Step). Rose (old.faults (Printer s.by)) (new.faults (Printer s.by)) → ⊥ in
-    let here : NoneFailed (step ∷ steps) h.view there.view = by_going p.goes_on (λ b. NoneFailed (step ∷ steps) h.view there.view) rest
-    (λ m. none_within (step ∷ steps) h.view h.view there.view end.view (proceeds_none h.view) (passed_goes (Unit {0}) (here_after h g step there) gs steps more end m.1) none)
-    (λ e. subst (λ (x : There). NoneFailed (step ∷ steps) h.view x.view) e.0 none) in
-    let later : NoneFailed (step ∷ steps) there.view end.view = none_within (step ∷ steps) h.view there.view end.view end.view next.passed.goes (proceeds_none end.view) none in (
-      calm_ask S step.by at g h.view there.view here.volumes (All-head (ones h.view there.view) step steps here.printers) step.what right (next.passed.honest tt),
-      subst (λ (r : Played). RightIf r.goes_on (AreCalm r.next (at + 1) (sights_of gs) steps)) (ask_right S step.by at g step.what right)
-          (by_going p.goes_on (λ b. RightIf b (AreCalm p.next (at + 1) (sights_of gs) steps)) rest
-          (λ m. again (record { volumes = later.volumes; printers = All-tail (ones there.view end.view) step steps later.printers }) m.1)
-          (λ e. tt)),
+    let here = none_within (step ∷ steps) h.view h.view there.view last (proceeds_none h.view) goes none in
+    let later = none_within (step ∷ steps) h.view there.view last last next.passed.goes (proceeds_none last) none in
+    let right = next.passed.given.right tt in (
+      (right, calm_ask h.scene step.by h.number g h.view there.view here.volumes (All-head (ones h.view there.view) step steps here.printers) step.what right (next.passed.honest tt)),
+      record { volumes = later.volumes; printers = All-tail (ones there.view last) step steps later.printers },
     )
-
-are_calm : (h : Here) (gs : List Given) (steps : List Step) (many : ℕ) (end : There) → NoneFailed steps h.view end.view → ArePassed (Unit {0}) h gs steps many end
-    → AreCalm h.scene h.number (sights_of gs) steps
-are_calm h gs [] many end none p = tt
-are_calm h [] (step ∷ steps) many end none (there, more, is, next, rest) =
-    calm_on h none_given [] step steps there more end none next rest (λ n p. are_calm (here_after h none_given step there) [] steps more end n p)
-are_calm h (g ∷ gs) (step ∷ steps) many end none (there, more, is, next, rest) =
-    calm_on h g gs step steps there more end none next rest (λ n p. are_calm (here_after h g step there) gs steps more end n p)
 
 pub find_none : (told : Type 0) → FindNone told
 find_none told t b e none p =
     let S = scene_of b.from in
-    ap (λ os. map shown os) (p.are tt)
-    ∙ lines_same b.steps S S.counts S.armed 1 (sights_of p.given) (are_calm (starts b) p.given b.steps e.many (stops e p.result) none p.passed)
+    ap (λ os. map shown os) p.did_is
+    ∙ lines_same p.given b.steps S S.counts S.armed 1
+    (each_line (Unit {0}) IsCalmAt (λ steps h. NoneFailed steps h.view e.view) (stops b e p.result) (calm_line e.view) (starts b) p.given b.steps e.many none p.passed)

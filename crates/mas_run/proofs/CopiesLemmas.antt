@@ -1,18 +1,17 @@
 -- The copies in lines one after another.
-use Rattle.mas_run.proofs.Names.{◌≡◌, ◌⊎◌, inl, inr, ℕ, Bool, true, false, Result, Ok, Err, refl, sym, ◌∙◌, subst, ⊎_elim, ap, Dev, Ckpt1, Ckpt2, PlantGhosts, View, SomeAlive, Parts, NodeNo, Grows, IsLeft, grow_rose, no, rose_grow, KeepCopies, LeavesCopies, LeavesOne, LeavesSome, ends_both, sides_of, HasLost, proceeds_none, proceeds_of, proceeds_on, OnConsole, StepCauses, HasActedIn, Passage, MemberId, Ghosts as CopyGhosts, is_open, Renewals, Disk, Proceeds}
+use Rattle.mas_run.proofs.Names.{IsCopyKept, each, is_alive, of_device, pick, ◌≡◌, ◌⊎◌, inl, inr, ℕ, Bool, true, false, Result, Ok, Err, refl, sym, ◌∙◌, ⊎_elim, ap, Dev, Ckpt1, Ckpt2, PlantGhosts, View, Parts, NodeNo, Grows, IsLeft, grow_rose, no, rose_grow, KeepCopies, LeavesCopies, LeavesOne, LeavesSome, ends_both, sides_of, HasLost, proceeds_none, proceeds_of, proceeds_on, OnConsole, StepCauses, HasActedIn, Passage, MemberId, Ghosts as CopyGhosts, is_open, Renewals, Disk, Proceeds, Rose}
 use Rattle.run_opening.proofs.LossLemmas.{lost_after, lost_before}
-use Rattle.member_decks.proofs.OutcomeLemmas.{left_then}
+use Rattle.member_steps.proofs.KeepLemmas.{left_then}
 use Rattle.member_node.specs.declared.member.NodeNo.TheVariants as no_node
 use Rattle.mas_complex.specs.CallCounts.{pair_at}
 
-by_test : {A : Type 0} (b : Bool) → (b ≡ true → A) → (b ≡ false → A) → A
+pub by_test : {A : Type 0} (b : Bool) → (b ≡ true → A) → (b ≡ false → A) → A
 by_test true f g = f refl
 by_test false f g = g refl
 
--- so one is alive, where one was
-pub alive_on : (a a' b b' : Bool) → SomeAlive a b → IsLeft a a' b b' → SomeAlive a' b'
-alive_on a a' b b' some is = ⊎_elim (λ here. here)
-    (λ same. subst (λ (x : Bool). SomeAlive x b') (sym same.0) (subst (λ (x : Bool). SomeAlive a x) (sym same.1) some)) is
+-- by what follows for each copy
+each_lost : (v0 v1 v2 v3 : View) → ((d : Dev) → Rose (v0.loses d) (v1.loses d) → Rose (v2.loses d) (v3.loses d)) → HasLost v0 v1 → HasLost v2 v3
+each_lost v0 v1 v2 v3 on lost = ⊎_elim (λ rose. inl (on Ckpt1 rose)) (λ rose. inr (on Ckpt2 rose)) lost
 
 module _ {P C : Type 0} (plants : PlantGhosts P) where
   abbrev v : Parts P C → View
@@ -23,55 +22,44 @@ module _ {P C : Type 0} (plants : PlantGhosts P) where
 
   lefts : (x y z : Parts P C) → ((d : Dev) → Grows ((v x).loses d) ((v y).loses d)) → ((d : Dev) → Grows ((v y).loses d) ((v z).loses d))
       → Left x y → Left y z → Left x z
-  lefts x y z grow more one two = let has_lost_later : (v0 v1 v2 : View) → ((d : Dev) → Grows (v0.loses d) (v1.loses d)) → HasLost v1 v2 → HasLost v0 v2 = λ v0 v1 v2 grow lost. ⊎_elim
-      (λ rose. inl (grow_rose (v0.loses Ckpt1) (v1.loses Ckpt1) (v2.loses Ckpt1) (grow Ckpt1) rose))
-      (λ rose. inr (grow_rose (v0.loses Ckpt2) (v1.loses Ckpt2) (v2.loses Ckpt2) (grow Ckpt2) rose))
-      lost in
-      let has_lost_more : (v0 v1 v2 : View) → HasLost v0 v1 → ((d : Dev) → Grows (v1.loses d) (v2.loses d)) → HasLost v0 v2 = λ v0 v1 v2 lost grow. ⊎_elim
-      (λ rose. inl (rose_grow (v0.loses Ckpt1) (v1.loses Ckpt1) (v2.loses Ckpt1) rose (grow Ckpt1)))
-      (λ rose. inr (rose_grow (v0.loses Ckpt2) (v1.loses Ckpt2) (v2.loses Ckpt2) rose (grow Ckpt2)))
-      lost in
-      ⊎_elim
-      (λ some. ⊎_elim
-      (λ others. inl (left_then x.first_alive y.first_alive z.first_alive x.second_alive y.second_alive z.second_alive some others))
-      (λ lost. inr (has_lost_later (v x) (v y) (v z) grow lost)) two)
-      (λ lost. inr (has_lost_more (v x) (v y) (v z) lost more))
-      one
+  lefts x y z grow more one two = ⊎_elim
+      (λ some. ⊎_elim (λ others. inl (left_then x.first_alive y.first_alive z.first_alive x.second_alive y.second_alive z.second_alive some others))
+      (λ lost. inr (each_lost (v y) (v z) (v x) (v z) (λ d rose. grow_rose ((v x).loses d) ((v y).loses d) ((v z).loses d) (grow d) rose) lost)) two)
+      (λ lost. inr (each_lost (v x) (v y) (v x) (v z) (λ d rose. rose_grow ((v x).loses d) ((v y).loses d) ((v z).loses d) rose (more d)) lost)) one
 
   left_by : (both : Bool) (x y z : Parts P C) → ((d : Dev) → Grows ((v x).loses d) ((v y).loses d)) → ((d : Dev) → Grows ((v y).loses d) ((v z).loses d))
       → Left x y → LeavesOne both (sides_of plants y) (sides_of plants z) → LeavesOne both (sides_of plants x) (sides_of plants z)
   left_by false x y z grow more one two = lefts x y z grow more one two
   left_by true x y z grow more one two = two
 
+  pub alive_same : (x y : Parts P C) → y.first_alive ≡ x.first_alive → y.second_alive ≡ x.second_alive → (d : Dev) → is_alive d (sides_of plants y) ≡ is_alive d (sides_of plants x)
+  alive_same x y one two d = ap (λ (a : Bool). pick d a y.second_alive) one ∙ ap (λ (b : Bool). pick d x.first_alive b) two
+
   -- copies that count as before: the device of one that counts as alive is lost if it was
   pub copies_still : {T : Type 0} (x y : Parts P C) (r : Result T NodeNo) → Proceeds (v x) (v y) → y.first_alive ≡ x.first_alive → y.second_alive ≡ x.second_alive
-      → (x.first_alive ≡ true → (v y).lost (Disk Ckpt1) ≡ (v x).lost (Disk Ckpt1)) → (x.second_alive ≡ true → (v y).lost (Disk Ckpt2) ≡ (v x).lost (Disk Ckpt2))
-      → ((d : Dev) → (v y).loses d ≡ (v x).loses d) → LeavesSome plants x y r → KeepCopies plants x y r
-  copies_still x y r goes one two lost1 lost2 loses left = record {
+      → ((d : Dev) → (v y).lost (Disk d) ≡ (v x).lost (Disk d)) → ((d : Dev) → (v y).loses d ≡ (v x).loses d) → LeavesSome plants x y r → KeepCopies plants x y r
+  copies_still x y r goes one two lost loses left = record {
     goes = goes;
-    failed1 = λ was gone. absurd (no x.first_alive was (sym one ∙ gone));
-    failed2 = λ was gone. absurd (no x.second_alive was (sym two ∙ gone));
-    there1 = λ is there. let was = sym one ∙ is in lost1 was ∙ there was;
-    there2 = λ is there. let was = sym two ∙ is in lost2 was ∙ there was;
+    copies = λ d ckpt.
+        let same = alive_same x y one two d in
+        record { failed = λ was gone. absurd (no (is_alive d (sides_of plants x)) was (sym same ∙ gone)); there = λ is there. lost d ∙ there (sym same ∙ is) };
     grow = λ d. inl (loses d);
     left = left;
   }
 
   pub copies_none : (x : Parts P C) → KeepCopies plants {T = Unit {0}} x x (Ok tt)
-  copies_none x = copies_still {T = Unit {0}} x x (Ok tt) (proceeds_none (v x)) refl refl (λ on. refl) (λ on. refl) (λ d. refl) (inl (inr (refl, refl)))
+  copies_none x = copies_still {T = Unit {0}} x x (Ok tt) (proceeds_none (v x)) refl refl (λ d. refl) (λ d. refl) (inl (inr (refl, refl)))
 
   pub copies_then : {T : Type 0} (x y z : Parts P C) (r : Result T NodeNo) → KeepCopies plants {T = Unit {0}} x y (Ok tt) → KeepCopies plants y z r → KeepCopies plants x z r
   copies_then x y z r one two = let grows_on : (x y z : ℕ) → Grows x y → Grows y z → Grows x z = λ x y z one two. ⊎_elim (λ same. ⊎_elim (λ still. inl (still ∙ same)) (λ rose. inr (grow_rose x y z one rose)) two) (λ rose. inr (rose_grow x y z rose two)) one in
       record {
         goes = proceeds_on (v x) (v y) (v z) one.goes two.goes;
-        failed1 = λ is not. by_test y.first_alive
-            (λ still. lost_after Ckpt1 (v x) (v y) (v z) one.goes (one.grow Ckpt1) (two.failed1 still not))
-            (λ gone. lost_before Ckpt1 (v x) (v y) (v z) (one.failed1 is gone) two.goes (two.grow Ckpt1));
-        failed2 = λ is not. by_test y.second_alive
-            (λ still. lost_after Ckpt2 (v x) (v y) (v z) one.goes (one.grow Ckpt2) (two.failed2 still not))
-            (λ gone. lost_before Ckpt2 (v x) (v y) (v z) (one.failed2 is gone) two.goes (two.grow Ckpt2));
-        there1 = λ is there. two.there1 is (λ then_is. one.there1 then_is there);
-        there2 = λ is there. two.there2 is (λ then_is. one.there2 then_is there);
+        copies = λ d ckpt. record {
+          failed = λ is not. by_test (is_alive d (sides_of plants y))
+              (λ still. lost_after d (v x) (v y) (v z) one.goes (one.grow d) ((two.copies d ckpt).failed still not))
+              (λ gone. lost_before d (v x) (v y) (v z) ((one.copies d ckpt).failed is gone) two.goes (two.grow d));
+          there = λ is there. (two.copies d ckpt).there is (λ then_is. (one.copies d ckpt).there then_is there);
+        };
         grow = λ d. grows_on ((v x).loses d) ((v y).loses d) ((v z).loses d) (one.grow d) (two.grow d);
         left = left_by (ends_both r) x y z one.grow two.grow one.left two.left;
       }
@@ -81,10 +69,8 @@ module _ {P C : Type 0} (plants : PlantGhosts P) where
       → LeavesSome plants x y r → KeepCopies plants x y r
   copies_of x y r course left = record {
     goes = proceeds_of (v x) (v y) course.goes;
-    failed1 = course.failed1;
-    failed2 = course.failed2;
-    there1 = λ is there. course.there1 is (there (course.alive1 is));
-    there2 = λ is there. course.there2 is (there (course.alive2 is));
+    copies = each (IsCopyKept (sides_of plants x) (sides_of plants y)) (record { failed = course.failed1; there = λ is there. course.there1 is (there (course.alive1 is)) })
+        (record { failed = course.failed2; there = λ is there. course.there2 is (there (course.alive2 is)) });
     grow = course.grow;
     left = left;
   }
@@ -108,7 +94,7 @@ module _ {P C : Type 0} (plants : PlantGhosts P) where
   pub said_copies : (x y : Parts P C) (r : Result (Unit {0}) NodeNo) → OnConsole plants.tells (v x) (v y) → y.first_alive ≡ x.first_alive → y.second_alive ≡ x.second_alive
       → (r ≡ Err no_node.BothLost → ⊥) → KeepCopies plants x y r
   said_copies x y r acts same1 same2 other =
-      copies_still x y r (proceeds_of (v x) (v y) acts.goes) same1 same2 (λ on. acts.lost Ckpt1) (λ on. acts.lost Ckpt2) (λ d. acts.loses d) (unlost r x y other same1 same2)
+      copies_still x y r (proceeds_of (v x) (v y) acts.goes) same1 same2 (λ d. acts.lost d) (λ d. acts.loses d) (unlost r x y other same1 same2)
 
   -- AND WHETHER THEY ARE BEING REPLACED
 
@@ -116,8 +102,7 @@ module _ {P C : Type 0} (plants : PlantGhosts P) where
       → LeavesCopies plants x y r
   leaves_same x y r keep same one two = record {
     devices = keep;
-    whole1 = λ now before. ap (λ (rs : Renewals). is_open rs.first) same ∙ before (one now);
-    whole2 = λ now before. ap (λ (rs : Renewals). is_open rs.second) same ∙ before (two now);
+    whole = λ d ckpt now before. ap (λ (rs : Renewals). is_open (of_device d rs)) same ∙ before (each (λ (e : Dev). is_alive e (sides_of plants y) ≡ true → is_alive e (sides_of plants x) ≡ true) one two d ckpt now);
   }
 
   pub leaves_none : (x : Parts P C) → LeavesCopies plants {T = Unit {0}} x x (Ok tt)
@@ -126,6 +111,5 @@ module _ {P C : Type 0} (plants : PlantGhosts P) where
   pub leaves_then : {T : Type 0} (x y z : Parts P C) (r : Result T NodeNo) → LeavesCopies plants {T = Unit {0}} x y (Ok tt) → LeavesCopies plants y z r → LeavesCopies plants x z r
   leaves_then x y z r one two = record {
     devices = copies_then x y z r one.devices two.devices;
-    whole1 = λ now before. two.whole1 now (λ mid. one.whole1 mid before);
-    whole2 = λ now before. two.whole2 now (λ mid. one.whole2 mid before);
+    whole = λ d ckpt now before. two.whole d ckpt now (λ mid. one.whole d ckpt mid before);
   }

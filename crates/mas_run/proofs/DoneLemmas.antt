@@ -1,14 +1,17 @@
 -- A line whose member got the lock by a try, and played a task with it or reset a stopped member; and a line that ended
 -- before its first act.
-use Rattle.mas_run.proofs.Names.{◌≡◌, ◌⊎◌, inl, inr, ℕ, ◌≤◌, true, List, [], ◌∷◌, ◌++◌, take, Option, Some, None, Result, Ok, Err, IfErr, OnOk, refl, sym, ◌∙◌, ap, subst, arith, Bool, false, drop, ◌-◌, length, set, zero, suc, ◌<◌, MemberId, Batch, Fate, Flying, Queue, is_stopped, Book, after_try, left_of as hold_left, Console, Disk, PlantGhosts, ViewLine as Line, View, paper_now, taken_now, Goes, Rose, SameWires, Ghosts as CopyGhosts, goes_on, goes_none, SamePapers, counts_of, Parts, parts_of, AreBatched, AtCut, IsBroken, IsCutIn, IsTight, whole_pieces, IsBetweenSittings, IsCutIn as IsCutAt, AreFoundIn, Wait, waits_in, named_in, IsFoundAt, HasActedIn, HasCut, HasPlayed, IfCommand, IfNoPrint, Writes, plays_left_of as left_of, play_in, IsAfterStep, MayPlay, PlaysPlayed as Played, played_in, wires_none, papers_on, rose_later, papers_none, stay_none, stay_then, spares_then, spares_none, NodeNo, console_now, VolumesStay, none_lost, Spares, stopped_in, journal_of, queue_of, IsGivable, StepCauses, Holder, Admission, Plays, Resets, admitted, granted_by, Left, left_by, adds, adds_all, adds_first, adds_part, cut_left, none_left, ArePiecesOf, queue_met, Piece, Play, fate_found, once_found, pieces_from, reset_closing, reset_pieces, Scene, Cut, Halt, Sight, clear, settle, ended_as, AdmissionLeaves, IfIdle, LosesAs, PrintsNone, is_takeover, is_work, taking, named_as, Proceeds, LineAt, pieces_as, play_as, HasLeftAs, IsCutBy, left_as, LineIsLeft, IsShapedAs, AreVolumesKept, Carries, proceeds_of, task_most, sittings_most, Fresh, Told, Task, Give, Work, Line as Node, Sitting, kept_none, kept_on, nobody, Config, members_most, SteadyGhosts, page_count, Complex, Member, HearsStep, IsQuiet, MayGoOn, SitsAreFewUnits as AreFewUnits, MayBeAsked, begins as begun, Ask, LineDone, line_by, HasReset, HasResetBy, IsAfterReset, MayReset, EachSays, closing_of, HasRead, ReadsAnyPieces, All-cons, All-nil, run, all_entries, calm, State, IsOperatorAway, flown_of, scene_as}
+use Rattle.mas_run.proofs.Names.{Admission, AdmissionLeaves, AreBatched, AreFoundIn, ArePiecesOf, AreVolumesKept, Ask, AtCut, Batch, Book, Bool, Carries, Complex, Config, Console, Cut, Disk, EachSays, Err, Fate, Flying, Fresh, Ghosts as CopyGhosts, Give, Goes, Halt, HasActedIn, HasCut, HasLeftAs, HasPlayed, HasReset, HasResetBy, HearsStep, Holder, IfCommand, IfErr, IfIdle, IfNoPrint, IsAfterReset, IsAfterStep, IsBetweenSittings, IsBroken, IsCutBy, IsCutIn, IsGivable, IsOperatorAway, IsQuiet, IsShapedAs, IsTight, Left, Line as Node, LineAt, LineDone, LineIsLeft, List, LosesAs, MayBeAsked, MayGoOn, MayPlay, MayReset, Member, MemberId, NodeNo, None, Ok, OnOk, Option, Parts, Piece, PlantGhosts, Play, Plays, PlaysPlayed as Played, PrintsNone, Proceeds, Queue, ReadsAnyPieces, Resets, Result, Rose, SamePapers, SameWires, Scene, Sight, SitsAreFewUnits as AreFewUnits, Sitting, Some, Spares, SteadyGhosts, StepCauses, Task, Told, View, ViewLine as Line, VolumesStay, Wait, Work, Writes, adds, adds_part, admitted, after_try, ap, arith, asked, begins as begun, clear, closing_of, comes, console_now, counted, counts_of, cut_left, ended_as, failed, false, fate_found, flown_of, goes_none, goes_on, granted_by, inl, inr, is_stopped, is_takeover, is_work, journal_of, kept_none, kept_on, kept_then, left, left_as, left_by, left_of as hold_left, length, line_by, members_most, named_as, named_in, none_lost, once_found, other, page_count, paper_now, papers_none, papers_on, parts_of, pieces_as, pieces_from, play_as, play_in, played, played_in, plays_left_of as left_of, proceeds_of, queue_met, queue_of, refl, reset_closing, reset_pieces, rose_later, scene_as, set, settle, sittings_most, spares_none, spares_then, stay_none, stay_then, stopped_in, subst, sym, take, taking, task_most, true, waits_in, whole_pieces, wires_none, ℕ, ◌++◌, ◌-◌, ◌∙◌, ◌≡◌, ◌≤◌, ◌⊎◌}
 use Rattle.member_sittings.specs.Tight.{IfNoWork}
-use Rattle.mas_run.proofs.PassedLemmas.{batched_within, kept_later, settle_none}
+use Rattle.member_resets.proofs.SettleLemmas.{settle_none}
+use Rattle.mas_run.proofs.PassedLemmas.{batched_within}
+use Rattle.mas_run.proofs.AlikeLemmas.{alike_same, left_alike}
 use Rattle.mas_run.proofs.LeftLemmas.{loses_on, stays_any, on_ok}
 use Rattle.mas_run.proofs.WireLemmas.{ReadsLine, task_carries, waits_on, read_after}
-use Rattle.mas_run.proofs.ArmLemmas.{its_holder, turn_holder, HasTurn, IsFewTask, left_so, same_config, turn_earlier, turn_goes, turn_hold, turn_quiet, turn_since, turn_still, IsTold}
+use Rattle.mas_run.proofs.ArmLemmas.{done_of, its_holder, turn_holder, HasTurn, IsFewTask, left_so, same_config, turn_earlier, turn_goes, turn_hold, turn_quiet, turn_since, turn_still, IsTold}
 use Rattle.mas_run.proofs.CopiesLemmas.{acted_copies, leaves_same}
 use Rattle.mas_run.proofs.TurnedLemmas.{from_says, HasWritten, IsNowAside, turned}
 use Rattle.mas_run.proofs.ClosingLemmas.{if_runs}
+use Rattle.mas_run.proofs.BarelyLemmas.{told_honest}
 use Rattle.member_node.specs.declared.member.NodeNo.TheVariants as no_node
 use Rattle.mas_types.specs.declared.commands.Command.TheVariants as command
 use Rattle.mas_complex.specs.CallCounts.{pair_at}
@@ -17,34 +20,17 @@ use Rattle.mas_complex.specs.CallCounts.{pair_at}
 abbrev erased : Left → Left
 erased l = record { batches = l.batches; lines = l.lines; printed = l.printed; prints = l.prints; given = l.given; count = 0; book = l.book }
 
-module _ (by : MemberId) (locked : Bool) where
-  all_erased : (ps : List Piece) (l m : Left) → erased l ≡ erased m → erased (adds_all by locked l ps) ≡ erased (adds_all by locked m ps)
-  all_erased [] l m e = e
-  all_erased (p ∷ ps) l m e = let adds_erased : (l m : Left) (p : Piece) → erased l ≡ erased m → erased (adds by locked l p) ≡ erased (adds by locked m p) = λ l m p e. ap (λ (x : Left). erased (adds by locked x p)) e in
-      all_erased ps (adds by locked l p) (adds by locked m p) (adds_erased l m p e)
-
-  first_erased : (halt : Halt) (ps : List Piece) (l m : Left) → erased l ≡ erased m → erased (adds_first by locked halt l ps) ≡ erased (adds_first by locked halt m ps)
-  first_erased halt [] l m e = e
-  first_erased halt (p ∷ ps) l m e = ap (λ (x : Left). erased (adds_part by locked halt x p)) e
-
 left_erased : (by : MemberId) (cut : Option Cut) (play : Play) (c d : ℕ) → erased (left_by by cut play c) ≡ erased (left_by by cut play d)
-left_erased by None play c d = all_erased by play.locked play.pieces (none_left by play.book c) (none_left by play.book d) refl
-left_erased by (Some cut) play c d =
-    let l = adds_all by play.locked (none_left by play.book c) (take cut.sittings play.pieces) in
-    let m = adds_all by play.locked (none_left by play.book d) (take cut.sittings play.pieces) in
-    ap (λ (x : Left). erased (cut_left by cut.cause x))
-    (first_erased by play.locked cut.halt (drop cut.sittings play.pieces) l m
-    (all_erased by play.locked (take cut.sittings play.pieces) (none_left by play.book c) (none_left by play.book d) refl))
+left_erased by cut play c d =
+    left_alike by play (λ (p q : Piece). p ≡ q) (λ (l m : Left). erased l ≡ erased m) (λ l m p q e same. ap (λ (x : Left). erased (adds by play.locked x p)) e ∙ ap (λ (r : Piece). erased (adds by play.locked m r)) same)
+    (λ halt l m p q e same. ap (λ (x : Left). erased (adds_part by play.locked halt x p)) e ∙ ap (λ (r : Piece). erased (adds_part by play.locked halt m r)) same) (λ why l m e. ap (λ (x : Left). erased (cut_left by why x)) e)
+    cut play.pieces c d (alike_same (λ (p q : Piece). p ≡ q) (λ p. refl) (whole_pieces cut play.pieces) play.pieces) refl
 
 -- IT DEPENDS on the pieces, the book and the lock alone
 
-abbrev three : List Piece → Book → Bool → Queue → Play
-three ps book locked Q = record { sayer = nobody; pieces = ps; book = book; locked = locked; queue = Q; flight = None }
-
-left_three : (by : MemberId) (cut : Option Cut) (play : Play) (Q : Queue) (c : ℕ)
-    → left_by by cut play c ≡ left_by by cut (three play.pieces play.book play.locked Q) c
-left_three by None play Q c = refl
-left_three by (Some cut) play Q c = refl
+left_same : (by : MemberId) (cut : Option Cut) (p q : Play) (c : ℕ) → p.pieces ≡ q.pieces → p.book ≡ q.book → p.locked ≡ q.locked → left_by by cut p c ≡ left_by by cut q c
+left_same by None p q c pieces book locked = rw (pieces, book, locked) refl
+left_same by (Some cut) p q c pieces book locked = rw (pieces, book, locked) refl
 
 -- WHERE IT WAS CUT, and why
 
@@ -127,11 +113,6 @@ module _ {P C : Type 0} (plants : PlantGhosts P) (copies : CopyGhosts C) (told :
     pub stepped_left : told ⊎ IsShapedAs l (v x) (v y) a → IfIdle (is_work a) (AtCut (IsTight (ended_as result)) sight.cut ps) → (told → IsToldStep) → HasLeftAs plants copies told l a x y result
     stepped_left shaped tight so = let on : Proceeds (v mid) (v y) = proceeds_of (v mid) (v y) acts.course.goes in
         let paper_mid : told → (m : ℕ) → paper_now (v mid) m ≡ paper_now (v x) m = λ t m. comes.papers t (v mid).now comes.goes.later (let same : (v mid).now ≤ (v mid).now = omega arith in same) m in
-        let left_same : (by : MemberId) (cut : Option Cut) (p q : Play) (c : ℕ) → p.pieces ≡ q.pieces → p.book ≡ q.book → p.locked ≡ q.locked → left_by by cut p c ≡ left_by by cut q c = λ by cut p q c pieces book locked. left_three by cut p p.queue c
-        ∙ ap (λ (ps : List Piece). left_by by cut (three ps p.book p.locked p.queue) c) pieces
-        ∙ ap (λ (b : Book). left_by by cut (three q.pieces b p.locked p.queue) c) book
-        ∙ ap (λ (l : Bool). left_by by cut (three q.pieces q.book l p.queue) c) locked
-        ∙ sym (left_three by cut q p.queue c) in
         let alike : erased left_mid ≡ erased (left_as l a) =
         sym (left_erased h.by sight.cut (play_as l a) (S.counts h.by) (counts_of mid.printed h.by) ∙ ap erased (left_same h.by sight.cut (play_as l a) (play_in h.by ps mid.book (queue_of mid)) (counts_of mid.printed h.by) pieces book locked)) in
         let count_alike : counts_of mid.printed h.by ≡ S.counts h.by → left_mid.count ≡ (left_as l a).count = λ same. ap (λ (k : Left). k.count) (sym (left_same h.by sight.cut (play_as l a) (play_in h.by ps mid.book (queue_of mid)) (counts_of mid.printed h.by) pieces book locked))
@@ -166,7 +147,7 @@ module _ {P C : Type 0} (plants : PlantGhosts P) (copies : CopyGhosts C) (told :
               (λ is. is ∙ count_alike ((so t).count up)) (so t).writes.count;
           other_counts = λ t m other. (so t).writes.other_counts m other ∙ ap (λ (p : List ℕ). counts_of p m) comes.printed;
           loses = λ t d. loses_on copies.reads (v x) (v mid) (v y) acts.course.goes (acts.loses (tells t)) (taking (is_takeover a) (fate_found a sight)) d (comes.loses t d);
-          volumes = λ t leaves. kept_later (v x) (v mid) (v y) comes.goes.later on (comes.volumes t) ((so t).volumes leaves);
+          volumes = λ t leaves. kept_then (v y).now (v x) (v mid) (v y) comes.goes.later on (comes.volumes t) ((so t).volumes leaves);
           wires = λ t. subst (λ (k : Left). Carries x.since l a k.given (v x) (v y)) alike (so t).wires;
         }
 
@@ -191,34 +172,6 @@ cut_so : (r : Result (Unit {0}) NodeNo) (ps : List Piece) (cut : Option Cut) (P 
     → IfErr r (λ e. AtCut (P e) cut ps) → AtCut (P (ended_as r)) cut ps
 cut_so (Ok done) ps cut P is at = subst (λ (c : Option Cut). AtCut (P no_node.Halted) c ps) (sym is) tt
 cut_so (Err e) ps cut P is at = at
-
--- A RESET WAITS FOR NOTHING
-
-none_taken : (n : ℕ) (p : Piece) → n < length (p ∷ []) → take n (p ∷ []) ≡ []
-none_taken zero p less = refl
-none_taken (suc n) p less = absurd (omega (arith, less))
-
-module _ (per : ℕ) (by : MemberId) (old new : View) where
-  abbrev Honest : Wait → Type 0
-  Honest w = IsFoundAt per by old new w.queue w.state (calm w.queue w.state)
-
-  told_honest : (p : Piece) → p.sitting.next ≡ Told → (r : Result (Unit {0}) NodeNo) (cut : Option Cut) (Q : Queue) → IsCutAt r (p ∷ []) cut
-      → AreFoundIn per by old new calm (waits_in (take (whole_pieces cut (p ∷ [])) (p ∷ [])) Q)
-  told_honest p next r None Q is =
-      let Q' = run Q (all_entries p.sitting.batches) in
-      let w : Wait = record { queue = Q'; state = p.sitting.next } in
-      All-cons Honest w [] (subst (λ (s : State). IsFoundAt per by old new Q' s (calm Q' s)) (sym next) refl) (All-nil Honest)
-  told_honest p next (Ok done) (Some cut) Q is = absurd (some_none cut is) where
-    some_none : (c : Cut) → Some c ≡ None → ⊥
-    some_none c e = absurd (cc)
-  told_honest p next (Err e) (Some cut) Q is = subst (λ (ps : List Piece). AreFoundIn per by old new calm (waits_in ps Q)) (sym (none_taken cut.sittings p is.there)) (All-nil Honest)
-
-  -- the pieces of a reset are one, after which nothing follows
-  pub reset_honest : (Q : Queue) (h : Holder) (of : MemberId) (ps : List Piece) (r : Result (Unit {0}) NodeNo) (cut : Option Cut) (R : Queue) → ps ≡ reset_pieces Q h of → IsCutAt r ps cut
-      → AreFoundIn per by old new calm (waits_in (take (whole_pieces cut ps) ps) R)
-  reset_honest Q h of ps r cut R is by_answer =
-      subst (λ (qs : List Piece). AreFoundIn per by old new calm (waits_in (take (whole_pieces cut qs) qs) R)) (sym is)
-      (told_honest _ refl r cut R (subst (λ (qs : List Piece). IsCutAt r qs cut) is by_answer))
 
 -- a task within the limits uses few levels, and few units
 few_task : (Q : Queue) (by : MemberId) (task : Task) → MayBeAsked Q by task → IsFewTask task
@@ -295,12 +248,6 @@ module _ {P C : Type 0} {plants : PlantGhosts P} {steadies : SteadyGhosts C} {co
     frame_t : q ≡ played_in q t
     frame_t = subst (λ (w : Parts P C). q ≡ played_in q w) turn.frame frame_y
 
-    base_t : y.base ≡ t.base
-    base_t = ap (λ (w : Parts P C). w.base) frame_t
-
-    since_t : y.since ≡ t.since
-    since_t = ap (λ (w : Parts P C). w.since) frame_t
-
     renewals_t : y.renewals ≡ t.renewals
     renewals_t = ap (λ (w : Parts P C). w.renewals) frame_t
 
@@ -311,23 +258,16 @@ module _ {P C : Type 0} {plants : PlantGhosts P} {steadies : SteadyGhosts C} {co
         (now : OnOk r (IsNowAside plants copies k q (page_count x.base.config) n)) (left : (told : Type 0) → IsTold plants told → LineIsLeft told at (line_by by what) x y r) where
       turn_done : LineDone x y (set ms (by.0 - 1) n) at by what r
       turn_done =
-          let both = turned x y t ms k turn.arm.few turn.arm.is refl refl (turn_since turn) (turn_hold turn) (turn_earlier turn) (goes_none (u p)) (λ o. refl) base_t since_t n (stays ∙ turn.own)
+          let base = ap (λ (w : Parts P C). w.base) frame_t in
+          let since = ap (λ (w : Parts P C). w.since) frame_t in
+          let both = turned x y t ms k turn.arm.few turn.arm.is refl refl (turn_since turn) (turn_hold turn) (turn_earlier turn) (goes_none (u p)) (λ o. refl) base since n (stays ∙ turn.own)
           pieces cut away (λ between. subst (λ (pages : ℕ). IsQuiet plants copies q pages) turn.up.many (quiet between)) acts.notes acts.course.goes r played wrote now in
-          record {
-            base = base_t;
-            since = since_t;
-            bare = left ⊥ (inl (λ o. o));
-            told = λ tells. left (Unit {0}) (inr (tt, tells));
-            copies_kept = leaves_same plants p q r (acted_copies plants copies by t q r acts) renewals_t acts.course.alive1 acts.course.alive2;
-            next = both.0;
-            halted = both.1;
-            seated = λ e. turn.inside;
-          }
+          done_of x y (set ms (by.0 - 1) n) at by what r base since left (leaves_same plants p q r (acted_copies plants copies by t q r acts) renewals_t acts.course.alive1 acts.course.alive2) both.0 both.1 (λ e. turn.inside)
 
     -- A TASK
 
     module _ (task : Task) (asked : MayBeAsked x.base by task) (adm : admitted (queue_of p).config x.book by what ≡ Plays task) (was_read is_read : Option (List ℕ)) (r : Result (Unit {0}) NodeNo)
-        (played : Played mid y m (begun h task) was_read is_read r) (after : OnOk r (IsAfterStep mid y m n (begun h task))) (read : plants.tells → ReadsLine plants p by task was_read) where
+        (played : Played mid y m (begun h task) was_read is_read r) (after : OnOk r (IsAfterStep mid y m n (begun h task))) (read : plants.tells → ReadsLine plants p p by task was_read) where
       its : HasPlayed plants copies (begun k task) t q (length m.room) was_read is_read r
       its =
           subst (λ (j : Holder). HasPlayed plants copies (begun j task) t q (length m.room) was_read is_read r) its_so
@@ -343,13 +283,12 @@ module _ {P C : Type 0} {plants : PlantGhosts P} {steadies : SteadyGhosts C} {co
           )
 
       -- the reader of its line goes on
-      pub reads_on : plants.tells → ReadsAnyPieces → r ≡ Ok tt → (line : ℕ) → task ≡ Node line → HasRead (((u p).world x.since).taken line by.0) (taken_now (u p) line by.0) (Some was_read)
-          → HasRead (((u p).world x.since).taken line by.0) (taken_now (u q) line by.0) (Some is_read)
-      reads_on tells law ok line same was =
+      pub reads_on : plants.tells → ReadsAnyPieces → r ≡ Ok tt → ReadsLine plants p q by task is_read
+      reads_on tells law ok =
           let so = its.told tells in
-          read_after by (u p) (u q) was_read is_read task so.sight.finds (waits_in (take (whole_pieces so.sight.cut so.pieces) so.pieces) (queue_of t)) (((u p).world x.since).taken line by.0) line law
-          (subst (λ (k : Result (Unit {0}) NodeNo). HearsStep by (u p) (u q) was_read is_read (Fresh task) k so.sight.finds (waits_in (take (whole_pieces so.sight.cut so.pieces) so.pieces) (queue_of t))) ok so.hears)
-          (waits_on so.sight (counts_of t.printed by) (queue_of t) k task so.pieces (whole_pieces so.sight.cut so.pieces) so.is) same was
+          let waits = waits_in (take (whole_pieces so.sight.cut so.pieces) so.pieces) (queue_of t) in
+          read_after plants p q by was_read is_read task so.sight.finds waits law (subst (λ (k : Result (Unit {0}) NodeNo). HearsStep by (u p) (u q) was_read is_read (Fresh task) k so.sight.finds waits) ok so.hears)
+          (waits_on so.sight (counts_of t.printed by) (queue_of t) k task so.pieces (whole_pieces so.sight.cut so.pieces) so.is) (read tells)
 
       plays_left : (told : Type 0) → IsTold plants told → LineIsLeft told at (line_by by what) x y r
       plays_left told (inl none) counts armed counted =
@@ -403,7 +342,7 @@ module _ {P C : Type 0} {plants : PlantGhosts P} {steadies : SteadyGhosts C} {co
           (unflown so.pieces) refl refl (u t).now (comes_none plants told by.0 t still) so.left its_reset.acts (inl known.0) so.tight
           (λ o. record {
             right = so.is;
-            honest = reset_honest (queue_of p).config.groups by (u t) (u q) (queue_of t) k of so.pieces r so.cut (queue_of t) so.is so.left.by_answer;
+            honest = told_honest (queue_of p).config.groups by (u t) (u q) (whole_pieces so.cut so.pieces) so.pieces _ so.is refl (queue_of t);
             stay = stays_any _ (u t) (u q) its_reset.volumes;
             broke = so.broke;
             dry = λ none. its_reset.papers known.1;

@@ -1,11 +1,9 @@
 -- What is known of a line by its admission, and of its member.
-use Rattle.mas_run.proofs.Names.{◌≡◌, ◌⊎◌, inl, inr, Bool, true, false, if◌then◌else◌, Some, None, refl, sym, ◌∙◌, ap, subst, ⊎_elim, ◌+◌, ◌≤◌, length, arith, Command, MemberId, nobody, is_somebody, is_member, job_seen_in, nothing_seen, refused_card, seen_after, LockNo, Book, is_holder, is_stopped, try_refusal, IsMember, is_dormant, wakes, Ask, Admission, Frees, Locks, Plays, Refused, Replaces, Resets, TakesOver, admitted, resets, Denied, Unplayed, denied_closing, Dev, Spool, IsCkpt, Queue, AreMembersNamed, IsConfig, IsFit, members_most, is_mark, IsPlayed, IsCopy, IsAsk, IsBy, IsGivable, MayBeAsked, AreFewUnits, IsSayer, is_of_member, line_by, ArmCame, Comes, CommandCame, DeckCame, FreeCame, HasGot, IsUp, LineCame, LockCame, LossCame, NoMember, NotGranted, ReplaceCame, ResetCame, SaysNo, StillUp, StopCame, TakeoverCame, WorkCame, comes, few_of, holder_is, inside_of, some_of}
-use Rattle.mas_types.specs.Step.{may_give}
+use Rattle.mas_run.proofs.Names.{◌≡◌, ◌⊎◌, inl, inr, Bool, true, false, if◌then◌else◌, Some, None, refl, sym, ◌∙◌, ap, subst, ⊎_elim, ◌+◌, ◌≤◌, length, arith, Command, MemberId, nobody, is_somebody, is_member, job_seen_in, nothing_seen, refused_card, seen_after, LockNo, Book, is_holder, is_stopped, try_refusal, IsMember, is_dormant, wakes, Ask, Admission, Frees, Locks, Plays, Refused, Replaces, Resets, TakesOver, admitted, resets, Denied, Unplayed, denied_closing, Dev, Spool, IsCkpt, Queue, AreMembersNamed, IsConfig, IsFit, members_most, IsPlayed, IsCopy, IsAsk, IsBy, IsGivable, MayBeAsked, AreFewUnits, IsSayer, is_of_member, line_by, ArmCame, Comes, CommandCame, DeckCame, FreeCame, HasGot, IsUp, LineCame, LockCame, LossCame, NoMember, NotGranted, ReplaceCame, ResetCame, SaysNo, StillUp, StopCame, TakeoverCame, WorkCame, comes, few_of, holder_is, inside_of}
+use Rattle.run_opening.proofs.TypedLemmas.{reset_givable, typed_givable}
 use Rattle.card_reader.specs.Statements.{cards_to_end, items_of}
 use Rattle.card_reader.proofs.Fields.{fields_fit, least-ok}
 use Rattle.card_reader.proofs.Refusals.{cards_fit}
-use Rattle.queue_commands.specs.Given.{IsGiver, is_plain}
-use Rattle.script_input.specs.Commands.{is_typed}
 use Rattle.script_lang.specs.declared.types.Ask.TheVariants as ask
 use Rattle.mas_types.specs.declared.commands.Command.TheVariants as command
 use Rattle.lock_cycle.specs.declared.answers.LockNo.TheVariants as lock
@@ -23,37 +21,6 @@ some_by by _ is some = some.0
 pub few_asked : (what : Ask) → IsAsk what → AreFewUnits what
 few_asked (ask.Work n) is = is.1
 few_asked _ is = tt
-
--- A COMMAND that a script may give
-
-typed_plain : (c : Command) → is_typed c ≡ true → is_plain c ≡ true
-typed_plain (command.Enter job text) is = absurd (cc)
-typed_plain (command.Ended job specs) is = absurd (cc)
-typed_plain (command.Load line) is = absurd (cc)
-typed_plain (command.Sent line number) is = absurd (cc)
-typed_plain (command.Got line number job text) is = absurd (cc)
-typed_plain _ is = refl
-
-typed_unmarked : (c : Command) → is_typed c ≡ true → is_mark c ≡ false
-typed_unmarked (command.Mark job index at) is = absurd (cc)
-typed_unmarked _ is = refl
-
-typed_giver : (by : MemberId) (c : Command) → is_typed c ≡ true → (1 ≤ by.0) × (by.0 ≤ members_most) → IsGiver by c
-typed_giver by command.Restart is some = absurd (cc)
-typed_giver by _ is some = some
-
-typed_may : (Q : Queue) (by : MemberId) (c : Command) → is_typed c ≡ true → is_member Q.config by ≡ true → may_give Q by c ≡ true
-typed_may Q by command.Restart is member = absurd (cc)
-typed_may Q by _ is member = member
-
-typed_givable : (Q : Queue) (by : MemberId) (c : Command) → IsConfig Q.config → is_member Q.config by ≡ true → IsFit c → is_typed c ≡ true → IsGivable Q by c
-typed_givable Q by c config member fit is = record {
-  plain = typed_plain c is;
-  fit = fit;
-  giver = typed_giver by c is (some_of Q.config by member, few_of Q.config by member config);
-  may = typed_may Q by c is member;
-  unmarked = typed_unmarked c is;
-}
 
 -- A COPY that a script may have replaced
 
@@ -86,10 +53,7 @@ module _ (Q : Queue) (config : IsConfig Q.config) (b : Book) (by : MemberId) whe
 
   -- a reset of a member that is stopped
   its_down : (c : Command) (of : MemberId) → resets c ≡ Some of → is_member Q.config of ≡ true → is_stopped b of ≡ true → IsFit c → IsDown of
-  its_down c of is member down fit = record { member = member; down = down; givable = λ its. typed_givable Q by (command.Reset of) config its (subst IsFit (reset_of c of is) fit) refl } where
-    reset_of : (c : Command) (of : MemberId) → resets c ≡ Some of → c ≡ command.Reset of
-    reset_of (command.Reset m) of is = let same : m ≡ of = cc in ap (λ (k : MemberId). command.Reset k) same
-    reset_of _ of is = absurd (cc)
+  its_down c of is member down fit = record { member = member; down = down; givable = λ its. reset_givable Q by config its c of is fit }
 
   known_by : {what : Ask} {a : Admission} → Comes Q.config b by what a → is_of_member what ≡ true → IsPlayed (line_by by what) → IsKnown a
   known_by (NoMember end named) is played = (inl refl, named)
@@ -99,7 +63,7 @@ module _ (Q : Queue) (config : IsConfig Q.config) (b : Book) (by : MemberId) whe
   known_by (DeckCame cards fields got read) is played =
       let none = (least-ok (refused_card 1 (cards_to_end 0 cards + 1) cards) (job_seen_in (seen_after Q.config.node nothing_seen (items_of cards))) fields read).0 in
       (got.is_up, (fields_fit Q.config.node cards fields config.node read, cards_fit (cards_to_end 0 cards) (cards_to_end 0 cards + 1) cards none), got)
-  known_by (CommandCame c got none) is played = (got.is_up, typed_givable Q by c config got.is_up.member played.fits.what played.built, got)
+  known_by (CommandCame c got none) is played = (got.is_up, typed_givable Q by config got.is_up.member c played.fits.what played.built, got)
   known_by (ResetCame c of got so member down) is played = (got.is_up, its_down c of so member down played.fits.what, got)
   known_by (TakeoverCame c of up so member down holds) is played = (up, its_down c of so member down played.fits.what, holds)
   known_by (WorkCame n got) is played = (got.is_up, played.fits.what.1, got)

@@ -1,5 +1,5 @@
 -- A line of a member, in the words of a run: by what it left, and once the operator said that its member was stopped.
-use Rattle.mas_run.proofs.Names.{IsWhy, ℕ, Bool, refl, ◌≡◌, ◌≢◌, inl, inr, ◌==◌, ◌&&◌, true, false, if◌then◌else◌, List, [], ◌∷◌, ◌++◌, map, append-nil, Option, None, Result, Ok, sym, ◌∙◌, ap, subst, arith, ⊎_elim, ◌⊎◌, ◌≤◌, Some, Err, ◌+◌, OnOk, Spool, Ckpt1, Ckpt2, View, ViewLine as Line, paper_now, ViewLine as Printed, World, KeepsCounts, VolumesStay, none_lost, console_now, stay_both, stay_more, OnConsole, eqb-true, nat_tests, map-append, Fate, Dev, MemberId, Ask, PlantGhosts, Ghosts as CopyGhosts, Parts, AreBatched, AtCut, IsBroken, IsTight, cause_by, NodeNo, next, Goes, Cut, Cause, Ends, Batched, Scene, Said, cause_of, steps_said_by as said_by, stopped_lines, Given, played_with, ArePiecesOf, IsAskRight, LineAt, admitted_at, pieces_at, played_at, fate_found, sayer_of, Piece, Admission, Plays, AdmissionLeaves, CutsAs, IfIdle, IfOfMember, IsPassed, IsWithin, arms_by, arms_then, cut_in, cut_of, is_takeover, is_work, printed_at, taking, IsGiven, IsHonest, IsHonestAs, StaysAs, named_as, named_by, names_in, IsNextAct, MayLoseCopy, loses_then, HasLeft, linesleft_left_at as left_at, IsCutBy, is_of_member, Disk, SamePapers, stopped_in, IsOneAct, CouldNotStay, IsWhyLost, Proceeds, IsShapedAs, holder_as, IsTaskShaped, by_order, All-weaker, Finds, units_done, units_left, nothing_found, Holder, State, Fresh, Told, Task, Deck, Give, Work, AreFoundIn, IsFoundAt, Wait, AreFewPieces, AreShaped, DeckLinesIn, SaysIn, WorkLinesIn, ended_as, LeavesVolumes, no, PairState, goes_none}
+use Rattle.mas_run.proofs.Names.{IsWhy, ℕ, Bool, refl, ◌≡◌, inl, inr, ◌==◌, true, false, if◌then◌else◌, List, [], ◌∷◌, ◌++◌, map, append-nil, Option, None, Result, Ok, sym, ◌∙◌, ap, subst, arith, ⊎_elim, ◌⊎◌, ◌≤◌, Some, Err, ◌+◌, OnOk, Spool, Ckpt1, Ckpt2, View, ViewLine as Line, paper_now, World, KeepsCounts, VolumesStay, none_lost, console_now, stay_both, stay_more, OnConsole, eqb-true, nat_tests, map-append, Fate, Dev, MemberId, Ask, PlantGhosts, Ghosts as CopyGhosts, Parts, NodeNo, next, Goes, Cut, Cause, Scene, Said, cause_of, steps_said_by as said_by, stopped_lines, Given, played_with, ArePiecesOf, IsAskRight, LineAt, admitted_at, pieces_at, fate_found, sayer_of, Piece, Admission, Plays, AdmissionLeaves, CutsAs, IfIdle, IfOfMember, IsPassed, IsWithin, is_takeover, printed_at, taking, IsGiven, named_as, IsNextAct, MayLoseCopy, loses_then, HasLeft, linesleft_left_at as left_at, IsCutBy, is_of_member, Disk, SamePapers, stopped_in, IsOneAct, CouldNotStay, IsWhyLost, Proceeds, IsShapedAs, holder_as, by_order, All-weaker, Finds, units_done, units_left, nothing_found, Holder, State, Fresh, Told, Task, Deck, Give, Work, AreFoundIn, IsFoundAt, Wait, AreShaped, DeckLinesIn, SaysIn, WorkLinesIn, ended_as, LeavesVolumes, no, PairState, goes_none, Account, account_at}
 use Rattle.member_resets.proofs.Following.{found_in}
 use Rattle.member_work.proofs.CauseLemmas.{wider_found, wider_refusal}
 use Rattle.member_sittings.specs.Shapes.{SaysAtEnd}
@@ -33,13 +33,13 @@ if_member (ask.StopIn what n) P p = tt
 if_member (ask.Lose dev) P p = tt
 if_member _ P p = p
 
--- what is said of lines of every kind is said of it by its admission
+-- the account of a line of a member, by its admission
+abbrev pub account_as : LineAt → Account
+account_as l = record { line = l; played = played_with l.scene l.step.by l.number (admitted_at l) l.given; cut = l.given.sight.cut; named = named_as l (admitted_at l) l.given.sight.cut; arms = false }
+
+-- what is said of lines of every kind is said of it so
 pub record IsOfMember (l : LineAt) : Type 0 where
-  pub played : played_at l ≡ played_with l.scene l.step.by l.number (admitted_at l) l.given
-  pub cut : (cut : Option Cut) → cut_in l.step.what cut ≡ cut
-  pub arms : arms_by l.scene l.step.by l.step.what ≡ false
-  -- it names the volumes that it found lost, and no others
-  pub names : (found : ℕ → Bool) → names_in l.step.what found ≡ found
+  pub account : account_at l ≡ account_as l
   pub right : ArePiecesOf l.scene l.step.by l.number (admitted_at l) l.given → IsAskRight l.scene l.step.by l.number l.given l.step.what
   pub leaves : LeavesVolumes l → AdmissionLeaves (admitted_at l)
 
@@ -47,7 +47,7 @@ member_line : (S : Scene) (at : ℕ) (g : Given) (by : MemberId) (what : Ask) �
 member_line S at g by ask.Stop is = absurd (no false is refl)
 member_line S at g by (ask.StopIn what n) is = absurd (no false is refl)
 member_line S at g by (ask.Lose dev) is = absurd (no false is refl)
-member_line S at g by _ is = record { played = refl; cut = λ cut. refl; arms = refl; names = λ found. refl; right = λ right. right; leaves = λ leaves. leaves }
+member_line S at g by _ is = record { account = refl; right = λ right. right; leaves = λ leaves. leaves }
 
 pub of_member : (l : LineAt) → is_of_member l.step.what ≡ true → IsOfMember l
 of_member l is = member_line l.scene l.number l.given l.step.by l.step.what is
@@ -56,50 +56,26 @@ lines_said : (by : MemberId) (ls : List Line) → map (λ (s : Said). s.line) (m
 lines_said by [] = refl
 lines_said by (l ∷ ls) = ap (λ (more : List Line). l ∷ more) (lines_said by ls)
 
-module _ (l : LineAt) (member : is_of_member l.step.what ≡ true) where
-  -- the lines that are said: those that the line left, and that its member was stopped
-  pub lines_left : map (λ (s : Said). s.line) (played_at l).outcome.said
-      ≡ (left_at l).lines ++ map (λ (s : Said). s.line) (stopped_lines l.step.by l.number (cause_of l.given.sight.cut))
-  lines_left =
-      ap (λ p. map (λ (s : Said). s.line) p.outcome.said) (of_member l member).played
-      ∙ map-append (λ (s : Said). s.line) (map (said_by (sayer_of l.step.by (admitted_at l))) (left_at l).lines) (stopped_lines l.step.by l.number (cause_of l.given.sight.cut))
-      ∙ ap (λ (ls : List Line). ls ++ map (λ (s : Said). s.line) (stopped_lines l.step.by l.number (cause_of l.given.sight.cut)))
-      (lines_said (sayer_of l.step.by (admitted_at l)) (left_at l).lines)
+-- the lines that are said: those that the line left, and that its member was stopped
+pub lines_left : (l : LineAt) → map (λ (s : Said). s.line) (account_as l).played.outcome.said
+    ≡ (left_at l).lines ++ map (λ (s : Said). s.line) (stopped_lines l.step.by l.number (cause_of l.given.sight.cut))
+lines_left l =
+    let stopped = stopped_lines l.step.by l.number (cause_of l.given.sight.cut) in
+    map-append (λ (s : Said). s.line) (map (said_by (sayer_of l.step.by (admitted_at l))) (left_at l).lines) stopped
+    ∙ ap (λ (ls : List Line). ls ++ map (λ (s : Said). s.line) stopped) (lines_said (sayer_of l.step.by (admitted_at l)) (left_at l).lines)
 
--- WHATEVER THE ANSWER
+-- what it gave
+pub given_by : (told : Type 0) (l : LineAt) → is_of_member l.step.what ≡ true → (old new : View) → told ⊎ IsShapedAs l old new (admitted_at l) → (told → ArePiecesOf l.scene l.step.by l.number (admitted_at l) l.given)
+    → IsGiven told l old new
+given_by told l member old new shaped right = record { shaped = ⊎_elim inl (λ s. inr (if_member l.step.what _ s)) shaped; right = λ t. (of_member l member).right (right t) }
 
-module _ {P C : Type 0} (plants : PlantGhosts P) (copies : CopyGhosts C) (told : Type 0) (l : LineAt) (x y : Parts P C)
-    (member : is_of_member l.step.what ≡ true) {result : Result (Unit {0}) NodeNo} (left : HasLeft plants copies told l x y result) where
-  -- each printer has the lines of the line's member, or none
-  pub printed_here : (m : ℕ) → told → paper_now (plants.view y.plant) m ≡ paper_now (plants.view x.plant) m ++ printed_at l m
-  printed_here m t = by_member (l.step.by.0 == m) refl where
-    by_member : (is : Bool) → (l.step.by.0 == m) ≡ is → paper_now (plants.view y.plant) m ≡ paper_now (plants.view x.plant) m ++ printed_at l m
-    by_member true is =
-        let same : l.step.by.0 ≡ m = eqb-true l.step.by.0 m is in
-        subst (λ (k : ℕ). paper_now (plants.view y.plant) k ≡ paper_now (plants.view x.plant) k ++ (left_at l).printed) same (left.paper t)
-        ∙ ap (λ (ls : List Line). paper_now (plants.view x.plant) m ++ ls) (sym (ap (λ p. p.outcome.printed) (of_member l member).played)
-        ∙ ap (λ (b : Bool). if b then (played_at l).outcome.printed else []) (sym is))
-    by_member false is =
-        let other : m ≢ l.step.by.0 = λ e. absurd (let same : (l.step.by.0 == m) ≡ true = grind (arith, nat_tests, e) in cc) in
-        left.other_papers t m other ∙ sym (append-nil (paper_now (plants.view x.plant) m))
-        ∙ ap (λ (ls : List Line). paper_now (plants.view x.plant) m ++ ls) (ap (λ (b : Bool). if b then (played_at l).outcome.printed else []) (sym is))
-
-  pub arms_same : (m : ℕ) → arms_then l m ((plants.view x.plant).arms m) ≡ (plants.view x.plant).arms m
-  arms_same m = ap (λ (b : Bool). if b && (l.step.by.0 == m) then next ((plants.view x.plant).arms m) else (plants.view x.plant).arms m) (of_member l member).arms
-
-  -- what it gave, and what it found
-  given_of : IsGiven told l (plants.view x.plant) (plants.view y.plant)
-  given_of = record {
-    shaped = ⊎_elim inl (λ s. inr (if_member l.step.what _ s)) left.shaped;
-    right = λ t. (of_member l member).right (left.right t);
-  }
-
-  honest_of : told → IsHonest l (plants.view x.plant) (plants.view y.plant)
-  honest_of t = subst (λ (c : Option Cut). IsHonestAs l (admitted_at l) c (plants.view x.plant) (plants.view y.plant)) (sym ((of_member l member).cut l.given.sight.cut)) (left.honest t)
-
-  stay_of : told → VolumesStay (named_by l) (plants.view x.plant) (plants.view y.plant)
-  stay_of t = subst (λ (f : ℕ → Bool). VolumesStay f (plants.view x.plant) (plants.view y.plant)) (sym ((of_member l member).names (named_as l (admitted_at l) (cut_of l))))
-      (subst (λ (c : Option Cut). StaysAs l (admitted_at l) c (plants.view x.plant) (plants.view y.plant)) (sym ((of_member l member).cut l.given.sight.cut)) (left.stay t))
+-- each printer has the lines of the line's member, or none
+pub printed_here : {P C : Type 0} (plants : PlantGhosts P) (copies : CopyGhosts C) (told : Type 0) (l : LineAt) (x y : Parts P C) {result : Result (Unit {0}) NodeNo} → HasLeft plants copies told l x y result → told → (m : ℕ)
+    → paper_now (plants.view y.plant) m ≡ paper_now (plants.view x.plant) m ++ printed_at (account_as l) m
+printed_here plants copies told l x y left t m = by_member (l.step.by.0 == m) refl where
+  by_member : (is : Bool) → (l.step.by.0 == m) ≡ is → paper_now (plants.view y.plant) m ≡ paper_now (plants.view x.plant) m ++ (if is then (left_at l).printed else [])
+  by_member true is = subst (λ (k : ℕ). paper_now (plants.view y.plant) k ≡ paper_now (plants.view x.plant) k ++ (left_at l).printed) (eqb-true l.step.by.0 m is) (left.paper t)
+  by_member false is = left.other_papers t m (λ e. absurd (let same : (l.step.by.0 == m) ≡ true = grind (arith, nat_tests, e) in cc)) ∙ sym (append-nil (paper_now (plants.view x.plant) m))
 
 -- what a line that takes the lock over found of a batch in flight
 abbrev pub took : LineAt → Option Fate
@@ -140,29 +116,15 @@ module _ (old mid new : View) (goes : Goes mid new) where
 
   shape_later : (h : Holder) (task : Task) (ps : List Piece) → AreShaped h (Fresh task) nothing_found old mid ps → AreShaped h (Fresh task) nothing_found old new ps
   shape_later h (Give c) ps is = is
-  shape_later h another ps is = let few_later : (h : Holder) (task : Task) (ps : List Piece) → AreFewPieces h (Fresh task) nothing_found old mid ps → AreFewPieces h (Fresh task) nothing_found old new ps = λ h task ps is. record {
+  shape_later h another ps is = record {
     few = is.few;
     kept = is.kept;
-    says = All-weaker (λ p. SaysIn h (Fresh task) nothing_found old mid p.sitting) (λ p. SaysIn h (Fresh task) nothing_found old new p.sitting) (says_later h task) ps is.says;
-  } in
-      few_later h another ps is
+    says = All-weaker (λ p. SaysIn h (Fresh another) nothing_found old mid p.sitting) (λ p. SaysIn h (Fresh another) nothing_found old new p.sitting) (says_later h another) ps is.says;
+  }
 
-  task_later : (h : Holder) (task : Task) (ps : List Piece) → IsTaskShaped h old mid task ps → IsTaskShaped h old new task ps
-  task_later h task ps is = record { own = is.own; shaped = shape_later h task ps is.shaped }
-
--- SHAPES, of a later view
-
-pub shaped_as_later : (old mid new : View) (goes : Goes mid new) (l : LineAt) (a : Admission) → IsShapedAs l old mid a → IsShapedAs l old new a
-shaped_as_later old mid new goes l (Plays task) is = task_later old mid new goes (holder_as l (Plays task)) task l.given.pieces is
-shaped_as_later old mid new goes l _ is = is
-
--- THE CUT
-
--- it was cut in a piece that was begun, if it was
-within_cut : (r : Result (Unit {0}) NodeNo) (ps : List Piece) (cut : Option Cut) → IsCutBy r ps cut → IsWithin cut ps
-within_cut (Ok done) ps cut is = subst (λ (c : Option Cut). IsWithin c ps) (sym is) tt
-within_cut (Err e) ps None is = absurd is
-within_cut (Err e) ps (Some cut) is = is.there
+  pub shaped_as_later : (l : LineAt) (a : Admission) → IsShapedAs l old mid a → IsShapedAs l old new a
+  shaped_as_later l (Plays task) is = record { own = is.own; shaped = shape_later (holder_as l (Plays task)) task l.given.pieces is.shaped }
+  shaped_as_later l _ is = is
 
 -- one act after that in which the member was stopped
 pub act_after : (mid new : View) → mid.halt ≡ mid.now → IsOneAct mid new → IsNextAct new
@@ -208,59 +170,45 @@ loses_on reads v0 v1 v2 goes same took d (inr may) = inr (may_on took d may) whe
 abbrev IsUnhalted : Result (Unit {0}) NodeNo → Type 0
 IsUnhalted r = r ≡ Err no_node.Halted → ⊥
 
-ends_by : (e : NodeNo) → IsUnhalted (Err e) → cause_by e ≡ Ends
-ends_by no_node.Halted other = absurd (other refl)
-ends_by _ other = refl
-
 not_stopped : (r : Result (Unit {0}) NodeNo) → IsUnhalted r → stopped_in r ≡ false
 not_stopped (Err no_node.Halted) other = absurd (other refl)
 not_stopped _ other = refl
 
-cut_so : (r : Result (Unit {0}) NodeNo) → IsUnhalted r → (by : MemberId) (ps : List Piece) (cut : Option Cut) (old new : View) → IsCutBy r ps cut → new.stops by.0 ≡ old.stops by.0 → CutsAs r by cut old new
-cut_so (Ok done) other by ps cut old new is up = subst (λ (c : Option Cut). CutsAs {T = Unit {0}} (Ok done) by c old new) (sym is) up
-cut_so (Err e) other by ps None old new is up = absurd is
-cut_so (Err e) other by ps (Some cut) old new is up =
-    (is.cause ∙ ends_by e other, inl (record { why = is.halt; other = λ same. other (ap (λ (k : NodeNo). Err k) same); up = up }))
+-- where it was cut, and why; and nobody said that its member was stopped
+ended_so : (r : Result (Unit {0}) NodeNo) → IsUnhalted r → (by : MemberId) (at : ℕ) (ps : List Piece) (cut : Option Cut) (old new : View) → IsCutBy r ps cut → new.stops by.0 ≡ old.stops by.0
+    → CutsAs r by cut old new × IsWithin cut ps × IsWhy r by old new (ended_as r) × (stopped_lines by at (cause_of cut) ≡ [])
+ended_so (Ok done) other by at ps None old new is up = (up, tt, refl, refl)
+ended_so (Ok done) other by at ps (Some cut) old new is up = absurd (cc)
+ended_so (Err e) other by at ps None old new is up = absurd is
+ended_so (Err no_node.Halted) other by at ps (Some cut) old new is up = absurd (other refl)
+ended_so (Err _) other by at ps (Some cut) old new is up =
+    ((is.cause, inl (record { why = is.halt; other = λ same. absurd (cc); up = up })), is.there, inl (refl, up), ap (λ (why : Cause). stopped_lines by at (Some why)) is.cause)
 
-why_so : (r : Result (Unit {0}) NodeNo) (by : MemberId) (old new : View) → new.stops by.0 ≡ old.stops by.0 → IsWhy r by old new (ended_as r)
-why_so (Ok done) by old new up = refl
-why_so (Err e) by old new up = inl (refl, up)
-
--- and nobody said that its member was stopped
-none_said : (r : Result (Unit {0}) NodeNo) → IsUnhalted r → (by : MemberId) (at : ℕ) (ps : List Piece) (cut : Option Cut) → IsCutBy r ps cut → stopped_lines by at (cause_of cut) ≡ []
-none_said (Ok done) other by at ps cut is = ap (λ (c : Option Cut). stopped_lines by at (cause_of c)) is
-none_said (Err e) other by at ps None is = absurd is
-none_said (Err e) other by at ps (Some cut) is = ap (λ (why : Cause). stopped_lines by at (Some why)) (is.cause ∙ ends_by e other)
-
-module _ {P C : Type 0} (plants : PlantGhosts P) (copies : CopyGhosts C) (told : Type 0) (l : LineAt) (x y : Parts P C) (r : Result (Unit {0}) NodeNo) (other : IsUnhalted r)
-    (member : is_of_member l.step.what ≡ true) (left : HasLeft plants copies told l x y r) where
-  abbrev w : Parts P C → View
-  w z = plants.view z.plant
-
-  pub passed_here : IsPassed told l left.own (w x) (w y) r
-  passed_here =
-      let cut_here : cut_of l ≡ l.given.sight.cut = (of_member l member).cut l.given.sight.cut in
-      let up : (w y).stops l.step.by.0 ≡ (w x).stops l.step.by.0 = left.spares.stops l.step.by.0 (inr (not_stopped r other)) in
-      record {
-        goes = left.goes;
-        stays = left.stays;
-        given = given_of plants copies told l x y member left;
-        honest = λ t. if_member l.step.what _ (honest_of plants copies told l x y member left t);
-        stay = stay_of plants copies told l x y member left;
-        cut = subst (λ (c : Option Cut). CutsAs r l.step.by c (w x) (w y)) (sym cut_here) (cut_so r other l.step.by (pieces_at l) l.given.sight.cut (w x) (w y) left.cut up);
-        within = subst (λ (c : Option Cut). IsWithin c (pieces_at l)) (sym cut_here) (within_cut r (pieces_at l) l.given.sight.cut left.cut);
-        why = ended_as r;
-        is_why = why_so r l.step.by (w x) (w y) up;
-        tight = subst (λ (c : Option Cut). IfIdle (is_work (admitted_at l)) (AtCut (IsTight (ended_as r)) c (pieces_at l))) (sym cut_here) left.tight;
-        broke = λ t. subst (λ (c : Option Cut). AtCut (IsBroken (ended_as r)) c (pieces_at l)) (sym cut_here) (left.broke t);
-        spares = λ m differs. left.spares.stops m (inl differs);
-        failed = left.failed;
-        batches = subst (λ (bs : List Batched). AreBatched l.step.by (w x).now (w y).now bs left.own) (sym (ap (λ p. p.outcome.batches) (of_member l member).played)) left.batches;
-        console = λ t. left.console t ∙ ap (λ (ls : List Printed). console_now (w x) ++ ls)
-            (sym (append-nil (left_at l).lines) ∙ ap (λ (ss : List Said). (left_at l).lines ++ map (λ (s : Said). s.line) ss) (sym (none_said r other l.step.by l.number (pieces_at l) l.given.sight.cut left.cut))
-            ∙ sym (lines_left l member));
-        paper = λ t m. printed_here plants copies told l x y member left m t;
-        dry = left.dry;
-        arms = λ m. left.arms m ∙ sym (arms_same plants copies told l x y member left m);
-        volumes = λ t leaves. left.volumes t ((of_member l member).leaves leaves);
-      }
+pub passed_here : {P C : Type 0} (plants : PlantGhosts P) (copies : CopyGhosts C) (told : Type 0) (l : LineAt) (x y : Parts P C) (r : Result (Unit {0}) NodeNo) → IsUnhalted r → is_of_member l.step.what ≡ true
+    → (left : HasLeft plants copies told l x y r) → IsPassed told (account_as l) left.own (plants.view x.plant) (plants.view y.plant) r
+passed_here plants copies told l x y r other member left =
+    let old = plants.view x.plant in
+    let new = plants.view y.plant in
+    let so = ended_so r other l.step.by l.number (pieces_at l) l.given.sight.cut old new left.cut (left.spares.stops l.step.by.0 (inr (not_stopped r other))) in
+    record {
+      goes = left.goes;
+      stays = left.stays;
+      given = given_by told l member old new left.shaped left.right;
+      honest = λ t. if_member l.step.what _ (left.honest t);
+      stay = left.stay;
+      cut = so.0;
+      within = so.1;
+      why = ended_as r;
+      is_why = so.2;
+      tight = left.tight;
+      broke = left.broke;
+      spares = λ m differs. left.spares.stops m (inl differs);
+      failed = left.failed;
+      batches = left.batches;
+      console = λ t. left.console t ∙ ap (λ (ls : List Line). console_now old ++ ls)
+          (sym (lines_left l ∙ ap (λ (ss : List Said). (left_at l).lines ++ map (λ (s : Said). s.line) ss) so.3 ∙ append-nil (left_at l).lines));
+      paper = printed_here plants copies told l x y left;
+      dry = left.dry;
+      arms = left.arms;
+      volumes = λ t leaves. left.volumes t ((of_member l member).leaves leaves);
+    }

@@ -3,6 +3,8 @@ pub mod RefusalLemmas
 pub mod WireLemmas
 pub mod PassedLemmas
 pub mod CopiesLemmas
+pub mod EachLemmas
+pub mod AlikeLemmas
 pub mod LeftLemmas
 pub mod JournalLemmas
 pub mod ClosingLemmas

@@ -1,7 +1,7 @@
 -- The names that many proofs take, each from where it is declared.
 pub use Rattle.std.proofs.Common.{All, Bool, Err, IfErr, IsErrOf, List, None, Ok, OnOk, Option, Result, Some, [], ap, append-nil, append_assoc, arith, drop, drop-cons, drop_of_length-le, eq-eqb, false, get_or, if◌then◌else◌, inl, inr, is_none, is_some, le_refl, length, map, nat_le, nat_lt, not, refl, replicate, rules, set, slice_get, slice_index_or, slice_set, subst, suc, sym, take, true, zero, ℕ, ⊎_elim, ◌&&◌, ◌*◌, ◌++◌, ◌+◌, ◌-◌, ◌<◌, ◌==◌, ◌||◌, ◌∙◌, ◌∷◌, ◌≡◌, ◌≢◌, ◌≤◌, ◌⊎◌}
 pub use Rattle.std.proofs.Math.Seq.{drop-append_seam}
-pub use Rattle.std.proofs.lemmas.Bool.{and_from, and_parts, cases_eq, eqb-true, false_from_ne_true}
+pub use Rattle.std.proofs.lemmas.Bool.{and_from, and_parts, and_right as and_none, cases_eq, eqb-true, false_from_ne_true}
 pub use Rattle.std.proofs.lemmas.Bool.Decides.{nat_tests}
 pub use Rattle.std.proofs.lemmas.List.{get_or-set_other, get_or-set_same, length-drop, length-set, map-append, set-get_or}
 pub use Rattle.std.proofs.lemmas.List.Elements.{All-append, All-cons, All-drop, All-head, All-nil, All-tail, All-take, All-weaker}
@@ -23,20 +23,21 @@ pub use Rattle.mas_complex.specs.Headline.{Headline}
 pub use Rattle.mas_complex.specs.Journals.{end_of, in_flight, with_last}
 pub use Rattle.mas_complex.specs.Locking.{IsOperatorAway, reserved_after_stop}
 pub use Rattle.mas_complex.specs.Parts.{batches_left, placed_left, unreserved_in, with_half}
+pub use Rattle.mas_complex.proofs.Basics.{each, volume_beside}
 pub use Rattle.mas_complex.specs.Renewals.{ended_at, of_device, or_at, with_device}
 pub use Rattle.mas_complex.specs.declared.renewals.Renewal.{Renewal}
 pub use Rattle.mas_run.specs.Bounds.{level_most, levels_most}
-pub use Rattle.mas_run.specs.Copies.{AreSidesLeft, CopiesKept, KeepCopies, LeavesCopies, LeavesOne, LeavesSome, Sides, StaysWhole, ends_both, sides_of}
-pub use Rattle.mas_run.specs.Histories.{AreHistory, IsBatched as HistoriesIsBatched}
-pub use Rattle.mas_run.specs.Lines.{AdmissionLeaves, AskLeaves, CutsAs, EndsBy, IfIdle, IfOfMember, IsCutAs as LinesIsCutAs, IsGiven, IsHonest, IsHonestAs, IsNextAct, IsPassed, IsThere, IsUnsaid, IsWhy, IsWithin, LeavesVolumes, LosesAs, MayLoseCopy, PrintsNone, StaysAs, StopsUnsaid, arms_by, arms_then, cut_in, cut_of, is_replaced, is_takeover, is_work, loses_then, named_as, named_by, names_in, printed_at, same_device, taking}
+pub use Rattle.mas_run.specs.Copies.{AreSidesLeft, CopiesKept, IsCopyKept, KeepCopies, LeavesCopies, LeavesOne, LeavesSome, Sides, StaysWhole, ends_both, is_alive, sides_of}
+pub use Rattle.mas_run.specs.Histories.{AreHistory, as_history}
+pub use Rattle.mas_run.specs.Lines.{Account, AdmissionLeaves, account_at, AskLeaves, CutsAs, EndsBy, IfIdle, IfOfMember, IsCutAs as LinesIsCutAs, IsGiven, IsHonest, IsHonestAs, IsNextAct, IsPassed, IsThere, IsUnsaid, IsWhy, IsWithin, LeavesVolumes, LosesAs, MayLoseCopy, PrintsNone, StaysAs, StopsUnsaid, arms_by, arms_then, cut_in, cut_of, is_replaced, is_takeover, is_work, loses_then, named_as, named_by, names_in, printed_at, same_device, taking}
 pub use Rattle.mas_run.specs.LinesAt.{LineAt, admitted_at, pieces_as, pieces_at, play_as, played_at}
 pub use Rattle.mas_run.specs.LinesDone.{LineDone, LineIsPlayed}
 pub use Rattle.mas_run.specs.LinesLeft.{AreCounted, flown_of, scene_as, HasLeft, HasLeftAs, IsCutBy, IsCutIn as LinesLeftIsCutIn, LeavesAt, LeftAt, LineIsLeft, left_as, left_at as linesleft_left_at, seen_of}
-pub use Rattle.mas_run.specs.LinesPlayed.{HasPlayedLine, PassesLines, PlayedLine, here_at, is_of_member, line_by, there_at}
-pub use Rattle.mas_run.specs.Passed.{ArePassed, GoesOn, Here, IsNext, LeaveVolumes, Passed, TakeNone, There, arms_after, here_after, line_of, loses_after}
+pub use Rattle.mas_run.specs.LinesPlayed.{HasPlayedLine, PassesLines, PlayedLines, PlayedLine, here_at, is_of_member, line_by, there_at}
+pub use Rattle.mas_run.specs.Passed.{AreEach, ArePassed, GoesOn, Here, IsNext, IsNextBy, LeaveVolumes, Passed, TakeNone, There, arms_after, here_after, line_of, loses_after}
 pub use Rattle.mas_run.specs.Refusals.{IsSaid, calm as refusals_calm, refusal_before_play, said_by, steps_of}
 pub use Rattle.mas_run.specs.Renewing.{Begins, BeginsAndEnds, CopiesAt, RenewsAs, RenewsBy, copies_at, known_by}
-pub use Rattle.mas_run.specs.Runs.{EndsAs, HasLost, HasSteps, HavePassed, IsPlay, IsRun, LinesBegun, LinesEnded, NonePassed, ReplacesNone, WerePlayed, starts, stops}
+pub use Rattle.mas_run.specs.Runs.{EndsAs, HasLost, HasLostSince, HasSteps, HavePassed, IsPlay, IsRun, LinesBegun, LinesEnded, NonePassed, ReplacesNone, RunResult, WerePlayed, begun_after, IsOpenForLines, ended_with, run_result, starts, stops}
 pub use Rattle.mas_run.specs.Shapes.{IsShapedAs, IsTaskShaped, holder_as}
 pub use Rattle.mas_run.specs.Statuses.{AreLeftAlone, CannotStop, IsLeftAlone, IsStill, TakesNone, resets_in}
 pub use Rattle.mas_run.specs.Wires.{Carries, HeardFirst, HeardIn, stream_since, task_place, waits_as}
@@ -115,7 +116,7 @@ pub use Rattle.run_turns.proofs.Givens.{ask_right, right_lines}
 pub use Rattle.run_turns.proofs.Keeping.{CallsKeep, adds_keeps, batches_are, left_keeps, tried_keeps}
 pub use Rattle.run_turns.specs.Admissions.{Frees, Locks, Unplayed, asked, command_admitted, deck_admitted, denied_closing, if_granted, no_member, reset_admitted, tried, tries}
 pub use Rattle.run_turns.specs.Cuts.{Left, adds, adds_all, adds_first, adds_part, batches_cut, begun, book_cut, cut_left, kept_all as cuts_kept_all, left_by, none_left, stopped_by}
-pub use Rattle.run_turns.specs.Givens.{AreRight, IsAskRight, ask_with, cut_if, flight_met, none_given, played_with}
+pub use Rattle.run_turns.specs.Givens.{AreRight, IsRight, IsAskRight, ask_with, cut_if, flight_met, none_given, played_with}
 pub use Rattle.run_turns.specs.Laws.{IsUp}
 pub use Rattle.run_turns.specs.Pieces.{after_piece, closes_with, entered, is_locked, once_found, piece_at, piece_of, pieces_found, pieces_from, pieces_of, play_of, released_by, replaced_closing, replaced_pieces, reset_closing, reset_pieces, sayer_of, spent, task_pieces, unless_told}
 pub use Rattle.run_turns.specs.Runs.{fate_then, history_from, outcomes_from, outcomes_if, scene_if, serves_ask, serves_line, settled}

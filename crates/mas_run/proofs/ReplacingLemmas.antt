@@ -1,72 +1,23 @@
 -- A line that replaces a copy: its member takes its seat or keeps it, replaces the copy, and says so.
-use Rattle.mas_run.proofs.Names.{◌≡◌, ◌≢◌, inl, inr, ⊎_elim, ℕ, ◌≤◌, Bool, true, false, Some, Result, Ok, Err, IsErrOf, refl, sym, ◌∙◌, ap, subst, arith, List, Option, None, ◌-◌, set, slice_get, Dev, Ckpt1, Ckpt2, Spool, MemberId, Part, Disk, PlantGhosts, View, Ghosts as CopyGhosts, IsBothLost, IsCkpt, SomeAlive, other, pick, begun_on, ended_on, is_open, of_device, Elsewhere, Parts, parts_of, IsLeft, console_now, Member, NodeNo, stopped_in, no as clash, Replaces, granted_by, LostAgain, NotLost, Renewed, Replaced, LeavesSome, StaysWhole, LeavesCopies, AreSidesLeft, Sides, ends_both, sides_of, Proceeds, is_copy, RenewsBy, RenewsAs, Renewals, closing_line, Page, Book, after_stop, after_try, left_of as hold_left, SteadyGhosts, Complex, IsAtSeat, journal_of, OtherNotesStay, IsSeatedBy, HasClosedBy, stopped_so, failed, Ask, ByLock, ForStep, Grant, Holder, Release, Told, Work, released, Piece, closes_with, holder_of, once_found, replaced_closing, Scene, LineDone, line_by, same_device, Armed, Batch, Counts, flown_of, scene_as, copies_at}
+use Rattle.mas_run.proofs.Names.{Admission, Armed, Ask, Batch, Book, Bool, ByLock, Ckpt1, Ckpt2, Complex, Counts, Cut, Dev, Disk, Err, ForStep, Ghosts as CopyGhosts, Grant, Halt, HasClosedBy, Holder, IsAtSeat, IsBothLost, IsCkpt, IsErrOf, IsLeft, IsSeatedBy, LeavesCopies, LeavesSome, LineDone, List, LostAgain, Member, MemberId, NodeNo, None, NotLost, Ok, Option, Page, Part, Parts, PlantGhosts, Proceeds, Release, Renewals, Renewed, RenewsBy, Replaced, Replaces, Result, Saying, Scene, Some, SomeAlive, Spool, StaysWhole, SteadyGhosts, Told, View, Work, after_stop, after_try, ap, arith, begun_on, closes_with, console, copies_at, each, ended_on, failed, false, flown_of, granted_by, holder_of, inl, inr, is_copy, is_open, journal_of, known_by, left, left_of as hold_left, no, no as clash, of_device, once_found, other, parts_of, pick, refl, released, replaced_closing, same_device, scene_as, set, slice_get, stopped_in, stopped_so, stops, subst, sym, true, volume_beside, ℕ, ⊎_elim, ◌-◌, ◌∙◌, ◌≡◌, ◌≢◌, ◌≤◌}
 use Rattle.mas_complex.specs.ReplaceNo.{ReplaceNo}
-use Rattle.mas_complex.specs.Replacing.{Replaces as ReplacesDevice, replace_stopped}
-use Rattle.member_lines.specs.Replaces.{HasReplaced, found_of, FollowsBy, HasNoSeat, HasSeat, IsLargeEnough, MayBeAt, MayReplace, ReplacesAndCloses, ReplacesBy, left_found, replacing_in}
-use Rattle.mas_run.proofs.ClosingLemmas.{Ending, IsCloser, Unsaid, closing_found, cut_by, copies_merely, then_merely}
-use Rattle.mas_run.proofs.MuteLineLemmas.{kept_elsewhere, other_disk, same_dev}
-use Rattle.mas_run.proofs.PassedLemmas.{device_is, by_keeps}
-use Rattle.mas_run.proofs.ArmLemmas.{its_holder, turn_holder, HasTurn, tested_here, IsTold, may_seat, turn_goes, turn_quiet}
+use Rattle.mas_complex.specs.Replacing.{replace_stopped}
+use Rattle.member_lines.specs.Replaces.{HasReplaced, found_of, FollowsBy, HasSeat, IsLargeEnough, MayBeAt, MayReplace, ReplacesAndCloses, ReplacesBy, left_found, replacing_in}
+use Rattle.mas_run.proofs.MuteLineLemmas.{kept_elsewhere, other_disk}
+use Rattle.mas_run.proofs.PassedLemmas.{device_is, by_keeps, same_dev}
+use Rattle.mas_run.proofs.ArmLemmas.{its_holder, turn_holder, DoneAt, HasTurn, done_so, tested_here, IsTold, may_seat, turn_goes, turn_quiet}
 use Rattle.mas_run.proofs.ClosesLemmas.{stays_stopped}
-use Rattle.mas_run.proofs.CopiesLemmas.{copies_still, leaves_same, leaves_then}
-use Rattle.mas_run.proofs.SeatLemmas.{Did, copies_acted, did_closed, did_done, did_unseated, error_same, tried_in, went, did_begun}
-use Rattle.mas_run.proofs.BarelyLemmas.{HasMerelyActed, MayBegin}
+use Rattle.mas_run.proofs.CopiesLemmas.{alive_same, copies_still, leaves_same}
+use Rattle.mas_run.proofs.SeatLemmas.{HasActedApart, copies_apart, did_closed, did_unseated, error_same, then_apart, tried_in, went, did_begun}
+use Rattle.mas_run.specs.Renewing.{known_at}
 use Rattle.mas_complex.proofs.Renewing.{none_open}
 use Rattle.mas_complex.specs.ReplaceNo.TheVariants as no
 use Rattle.member_node.specs.declared.member.NodeNo.TheVariants as no_node
 
 -- OTHER PARTS than the device of a copy
 
-is_copy_of : (dev : Dev) → IsCkpt dev → is_copy (Disk dev) ≡ true
-is_copy_of (Spool n) ckpt = absurd ckpt
-is_copy_of _ ckpt = refl
-
 other_part : (dev : Dev) → IsCkpt dev → (p : Part) → is_copy p ≡ false → p ≢ Disk dev
-other_part dev ckpt p other same = absurd (clash true refl (sym (is_copy_of dev ckpt) ∙ ap is_copy (sym same) ∙ other))
-
-spool_other : (dev : Dev) → IsCkpt dev → (n : ℕ) → Spool n ≢ dev
-spool_other (Spool m) ckpt n same = absurd ckpt
-spool_other _ ckpt n same = absurd (cc)
-
--- THE PLANT
-
-module _ {P C : Type 0} (plants : PlantGhosts P) (by : MemberId) (dev : Dev) (ckpt : IsCkpt dev) (x y : Parts P C) (stopped : Bool)
-    (reps : ReplacesDevice by.0 dev stopped (plants.view x.plant) (plants.view y.plant)) where
-  abbrev v : Parts P C → View
-  v z = plants.view z.plant
-
-  replaced_goes : Proceeds (v x) (v y)
-  replaced_goes = record {
-    later = reps.later;
-    past = reps.past;
-    size = reps.size;
-    faults = reps.faults;
-    stops = reps.stops;
-    lost = λ p other is. reps.else_lost p (other_part dev ckpt p other) ∙ is;
-  }
-
-  -- acts in which nothing was said, by a line whose answer says so whether its member was stopped
-  replaced_merely : (r : Result (Unit {0}) NodeNo) → stopped_in r ≡ stopped → (r ≡ Err no_node.ConsoleFault → ⊥) → (plants.tells → Elsewhere dev (v x) (v y)) → HasMerelyActed plants by (Replaces dev) x y r
-  replaced_merely r same other els = record {
-    goes = replaced_goes;
-    stays = λ d apart is. reps.else_lost (Disk d) (other_disk dev d apart) ∙ is;
-    arms = reps.arms;
-    spares = record {
-      volumes = λ n. reps.loses (Spool n);
-      stops = λ m so. reps.no_other_stop m (⊎_elim inl (λ up. inr (sym same ∙ up)) so);
-      operator = λ is. reps.not_operator (sym same ∙ is);
-      at_halt = λ is. reps.at_halt (sym same ∙ is);
-    };
-    stopped = λ is. reps.halted (sym same ∙ ap stopped_in is);
-    failed = λ is. absurd (other is);
-    papers = λ t. (els t).papers;
-    wires = λ t. (els t).wires;
-    volumes = λ t. kept_elsewhere dev (v x) (v y) (spool_other dev ckpt) (els t);
-    stay = record {
-      lost = λ n is. reps.else_lost (Disk (Spool n)) (other_part dev ckpt (Disk (Spool n)) refl);
-      faults = λ n is. reps.else_faults (Disk (Spool n)) (other_part dev ckpt (Disk (Spool n)) refl);
-    };
-  }
+other_part dev ckpt p other same = absurd (clash true refl (sym (each (λ (d : Dev). is_copy (Disk d) ≡ true) refl refl dev ckpt) ∙ ap is_copy (sym same) ∙ other))
 
 -- WHAT IT LEAVES, by its answer
 
@@ -89,9 +40,7 @@ pick_apart (Spool n) dev ckpt its apart a b c e one two = absurd ckpt
 pick_apart _ (Spool n) ckpt its apart a b c e one two = absurd its
 
 ended_whole : (d : Dev) → IsCkpt d → (now : ℕ) (rs : Renewals) → is_open (of_device d (ended_on d now rs)) ≡ false
-ended_whole Ckpt1 ckpt now rs = none_open rs.first now
-ended_whole Ckpt2 ckpt now rs = none_open rs.second now
-ended_whole (Spool n) ckpt now rs = absurd ckpt
+ended_whole d ckpt now rs = each (λ (e : Dev). is_open (of_device e (ended_on e now rs)) ≡ false) (none_open rs.first now) (none_open rs.second now) d ckpt
 
 module _ {P C : Type 0} (plants : PlantGhosts P) (copies : CopyGhosts C) (n : Member) (dev : Dev) (ckpt : IsCkpt dev) (x y : Parts P C) where
   -- what is as it was
@@ -119,6 +68,21 @@ module _ {P C : Type 0} (plants : PlantGhosts P) (copies : CopyGhosts C) (n : Me
     renews_some (Some LostAgain) r = inr (inl r)
     renews_some None r = r
 
+    -- of a line that was cut so
+    known_halt : (halt : Halt) (found : Renewed) → RenewsIn (Some found) → RenewsIn (known_at halt found)
+    known_halt (Saying k tail) found r = r
+    known_halt _ found r = renews_some (Some found) r
+
+    renews_cut : (cut : Option Cut) (found : Renewed) → RenewsIn (Some found) → RenewsIn (known_by cut found)
+    renews_cut None found r = r
+    renews_cut (Some cut) found r = known_halt cut.halt found r
+
+    -- from a value with the same moments to another
+    renews_of : (known : Option Renewed) (rs ss : Renewals) → x.renewals ≡ rs → ss ≡ y.renewals → RenewsIn known → RenewsBy known dev (record { renewals = rs; view = old }) (record { renewals = ss; view = new })
+    renews_of known rs ss one two r =
+        subst (λ (k : Renewals). RenewsBy known dev (record { renewals = rs; view = old }) (record { renewals = k; view = new })) (sym two)
+        (subst (λ (k : Renewals). RenewsBy known dev (record { renewals = k; view = old }) (record { renewals = y.renewals; view = new })) one r)
+
   -- THE COPIES
 
   -- both count as lost where the answer says so
@@ -133,6 +97,11 @@ module _ {P C : Type 0} (plants : PlantGhosts P) (copies : CopyGhosts C) (n : Me
     pub whole : StaysWhole (pick d x.first_alive x.second_alive) (of_device d x.renewals) (pick d y.first_alive y.second_alive) (of_device d y.renewals)
 
   module _ (answer : Result (Unit {0}) ReplaceNo) (h : HasReplaced plants copies n dev x y answer) where
+    replaced_goes : Proceeds (plants.view x.plant) (plants.view y.plant)
+    replaced_goes =
+        let lost : (p : Part) → is_copy p ≡ false → (plants.view x.plant).lost p ≡ true → (plants.view y.plant).lost p ≡ true = λ p other is. h.replaces.else_lost p (other_part dev ckpt p other) ∙ is in
+        assumption (lost, h.replaces)
+
     -- it counts as before, and isn't the one to be replaced if it counts as alive
     so_apart : (d : Dev) → IsCkpt d → pick d y.first_alive y.second_alive ≡ pick d x.first_alive x.second_alive → (pick d x.first_alive x.second_alive ≡ true → same_device d dev ≡ false) → IsSoOn d
     so_apart d is_ckpt same apart = record {
@@ -145,28 +114,21 @@ module _ {P C : Type 0} (plants : PlantGhosts P) (copies : CopyGhosts C) (n : Me
 
     leaves_so : ((d : Dev) → IsCkpt d → IsSoOn d) → (r : Result (Unit {0}) NodeNo) → LeavesSome plants x y r → LeavesCopies plants x y r
     leaves_so so r left =
-        let one = so Ckpt1 tt in
-        let two = so Ckpt2 tt in
         record {
           devices = record {
-            goes = replaced_goes plants n.id dev ckpt x y (replace_stopped answer) h.replaces;
-            failed1 = λ was gone. absurd (clash y.first_alive (one.up was) gone);
-            failed2 = λ was gone. absurd (clash y.second_alive (two.up was) gone);
-            there1 = one.there;
-            there2 = two.there;
+            goes = replaced_goes;
+            copies = λ d is_ckpt. record { failed = λ was gone. absurd (clash (pick d y.first_alive y.second_alive) ((so d is_ckpt).up was) gone); there = (so d is_ckpt).there };
             grow = λ d. inl (h.replaces.loses d);
             left = left;
           };
-          whole1 = one.whole;
-          whole2 = two.whole;
+          whole = λ d is_ckpt. (so d is_ckpt).whole;
         }
 
     -- a copy that counts as lost was to be replaced, and wasn't
     leaves_still : (IsErrOf answer no.NotLost → ⊥) → y.first_alive ≡ x.first_alive → y.second_alive ≡ x.second_alive → (r : Result (Unit {0}) NodeNo)
         → (r ≡ failed no_node.BothLost → IsBothLost y.first_alive y.second_alive) → LeavesCopies plants x y r
     leaves_still dead one two r both =
-        leaves_so (λ d is_ckpt. so_apart d is_ckpt (ap (λ (a : Bool). pick d a y.second_alive) one ∙ ap (λ (b : Bool). pick d x.first_alive b) two)
-        (λ was. device_is d dev (λ same. dead (h.alive (subst (λ (k : Dev). pick k x.first_alive x.second_alive ≡ true) same was))))) r (leaves_by r (inr (one, two)) both)
+        leaves_so (λ d is_ckpt. so_apart d is_ckpt (alive_same plants x y one two d) (λ was. device_is d dev (λ same. dead (h.alive (subst (λ (k : Dev). pick k x.first_alive x.second_alive ≡ true) same was))))) r (leaves_by r (inr (one, two)) both)
 
   -- it was replaced
   so_own : HasReplaced plants copies n dev x y ok → (d : Dev) → IsCkpt d → dev ≡ d → IsSoOn d
@@ -194,9 +156,47 @@ module _ {P C : Type 0} (plants : PlantGhosts P) (copies : CopyGhosts C) (n : Me
       let one : y.first_alive ≡ x.first_alive = ap (λ (w : Parts P C). w.first_alive) h.frame in
       let two : y.second_alive ≡ x.second_alive = ap (λ (w : Parts P C). w.second_alive) h.frame in
       leaves_same plants x y r
-      (copies_still plants x y r (replaced_goes plants n.id dev ckpt x y _ h.replaces) one two (λ on. ap (λ (w : Parts P C). (plants.view w.plant).lost (Disk Ckpt1)) h.frame)
-      (λ on. ap (λ (w : Parts P C). (plants.view w.plant).lost (Disk Ckpt2)) h.frame) h.replaces.loses (leaves_by r (inr (one, two)) both))
+      (copies_still plants x y r (replaced_goes another h) one two
+      (λ d. ap (λ (w : Parts P C). (plants.view w.plant).lost (Disk d)) h.frame) h.replaces.loses (leaves_by r (inr (one, two)) both))
       (ap (λ (w : Parts P C). w.renewals) h.frame) (λ is. sym one ∙ is) (λ is. sym two ∙ is)
+
+  both_lost : (answer : Result (Unit {0}) ReplaceNo) → HasReplaced plants copies n dev x y answer → answer ≡ Err no.BothLost → IsBothLost y.first_alive y.second_alive
+  both_lost answer h is =
+      let both = h.both is in
+      let same : y ≡ x = (subst (λ (j : Result (Unit {0}) ReplaceNo). HasReplaced plants copies n dev x y j) is h).frame in
+      (ap (λ (w : Parts P C). w.first_alive) same ∙ both.0, ap (λ (w : Parts P C). w.second_alive) same ∙ both.1)
+
+  -- acts in which nothing was said, by a line whose answer says so whether its member was stopped
+  replaced_apart : (by : MemberId) → n.id ≡ by → (answer : Result (Unit {0}) ReplaceNo) (r : Result (Unit {0}) NodeNo) → HasReplaced plants copies n dev x y answer → stopped_in r ≡ replace_stopped answer
+      → (r ≡ failed no_node.ConsoleFault → ⊥) → (r ≡ failed no_node.BothLost → answer ≡ Err no.BothLost) → HasActedApart plants by (Replaces dev) x y r
+  replaced_apart by own answer r h same other both =
+      let reps = h.replaces in
+      subst (λ (k : MemberId). HasActedApart plants k (Replaces dev) x y r) own (record {
+        acted = record {
+          goes = replaced_goes answer h;
+          stays = λ d apart is. reps.else_lost (Disk d) (other_disk dev d apart) ∙ is;
+          arms = reps.arms;
+          spares = record {
+            volumes = λ n. reps.loses (Spool n);
+            stops = λ m so. reps.no_other_stop m (⊎_elim inl (λ up. inr (sym same ∙ up)) so);
+            operator = λ is. reps.not_operator (sym same ∙ is);
+            at_halt = λ is. reps.at_halt (sym same ∙ is);
+          };
+          stopped = λ is. reps.halted (sym same ∙ ap stopped_in is);
+          failed = λ is. absurd (other is);
+          papers = λ t. (h.elsewhere t).papers;
+          wires = λ t. (h.elsewhere t).wires;
+          volumes = λ t. kept_elsewhere dev (plants.view x.plant) (plants.view y.plant) (λ n. volume_beside n dev ckpt) (h.elsewhere t);
+          stay = record {
+            lost = λ n is. reps.else_lost (Disk (Spool n)) (other_part dev ckpt (Disk (Spool n)) refl);
+            faults = λ n is. reps.else_faults (Disk (Spool n)) (other_part dev ckpt (Disk (Spool n)) refl);
+          };
+          kept = replaced_leaves answer r h (λ is. both_lost answer h (both is));
+        };
+        loses = λ t. reps.loses;
+        console = λ t. (h.elsewhere t).console (plants.view y.plant).now reps.later (omega arith);
+        notes = λ j apart. ap (λ (had : List (List Page)). slice_get had j) (replaced_rest answer h).2;
+      })
 
 -- THE LINE
 
@@ -205,19 +205,15 @@ closes_up : (answer : Result (Unit {0}) ReplaceNo) (found : Renewed) → found_o
 closes_up (Err no.Halted) found is = absurd (cc)
 closes_up _ found is = refl
 
--- which never is the console's failure
-open_begins : (e : NodeNo) → e ≢ no_node.ConsoleFault → MayBegin e
-open_begins no_node.ConsoleFault other = other refl
-open_begins _ other = tt
-
 plant_so : {P C : Type 0} (e : NodeNo) (by : MemberId) (z : Parts P C) → (stopped_so (failed e) by z).plant ≡ z.plant
 plant_so no_node.Halted by z = refl
 plant_so _ by z = refl
 
--- the copies don't differ once its member is stopped in the book
-sides_stopped : {P C : Type 0} (plants : PlantGhosts P) (by : MemberId) (z : Parts P C) (e : NodeNo) → sides_of plants z ≡ sides_of plants (stopped_so (failed e) by z)
-sides_stopped plants by z no_node.Halted = refl
-sides_stopped plants by z _ = refl
+-- once its member is stopped in the book
+stopped_apart : {P C : Type 0} (plants : PlantGhosts P) (by m : MemberId) (a : Admission) (s z : Parts P C) (r : Result (Unit {0}) NodeNo) (e : NodeNo) → HasActedApart plants by a s z r
+    → HasActedApart plants by a s (stopped_so (failed e) m z) r
+stopped_apart plants by m a s z r no_node.Halted acts = assumption acts
+stopped_apart plants by m a s z r _ acts = acts
 
 module _ {P C : Type 0} {plants : PlantGhosts P} {steadies : SteadyGhosts C} {copies : CopyGhosts C} {x mid : Complex P C plants steadies copies} {ms : List Member}
     {at : ℕ} {by : MemberId} {what : Ask} {dev : Dev} {m : Member} (turn : HasTurn x mid ms at by what (Replaces dev) m)
@@ -247,38 +243,15 @@ module _ {P C : Type 0} {plants : PlantGhosts P} {steadies : SteadyGhosts C} {co
   at_mid ByLock is_so = let go : (grant : Grant) → granted_by x.book by ≡ grant → IsSeatedBy plants copies grant t m = λ grant is_so. subst (λ (c : Grant). IsSeatedBy plants copies c t m) is_so (turn_goes turn (Work 0) (omega arith)).seat in
       subst (λ (w : Parts P C). IsAtSeat plants copies w m) (sym turn.frame) (record { seat = go ByLock is_so; level = let below = turn.arm.below in omega (arith, below) })
 
-  large : (d : Dev) → IsCkpt d → IsLargeEnough plants copies (parts_of mid) d
-  large Ckpt1 is_ckpt = subst (λ (w : Parts P C). IsLargeEnough plants copies w Ckpt1) (sym turn.frame) turn.arm.is.large.0
-  large Ckpt2 is_ckpt = subst (λ (w : Parts P C). IsLargeEnough plants copies w Ckpt2) (sym turn.frame) turn.arm.is.large.1
-  large (Spool n) is_ckpt = absurd is_ckpt
-
   pub may_replace : MayReplace mid m h dev
   may_replace = record {
     ckpt = ckpt;
     at = subst (λ (j : Holder). MayBeAt plants copies j.grant (parts_of mid) m) (sym (its_holder turn h same)) (at_mid (granted_by x.book by) refl);
-    size = large dev ckpt;
+    size = subst (λ (w : Parts P C). IsLargeEnough plants copies w dev) (sym turn.frame) (each (λ (d : Dev). IsLargeEnough plants copies p d) turn.arm.is.large.0 turn.arm.is.large.1 dev ckpt);
   }
-
-  -- ITS PIECE, which closes by what was found
 
   abbrev rel : Release
   rel = released k.grant k.hold 0 Told
-
-  abbrev pieces : Renewed → List Piece
-  pieces found = closes_with by at (replaced_closing dev found) rel
-
-  abbrev line : Renewed → List ℕ
-  line found = closing_line by at (replaced_closing dev found)
-
-  closer : (counts : Counts) (armed : List Armed) (found : Renewed) (e : Ending)
-      → IsCloser (closing_found found (scene_as p counts armed) at (line_by by what) e (pieces found)) (Replaces dev) (line found) rel
-  closer counts armed found e = record {
-    pieces = ap (λ (c : Option Batch). once_found (flown_of c) (pieces found)) calm;
-    shaped = λ old new. refl;
-    right = refl;
-    found = refl;
-    play = refl;
-  }
 
   -- WHAT IT LEFT
 
@@ -293,27 +266,24 @@ module _ {P C : Type 0} {plants : PlantGhosts P} {steadies : SteadyGhosts C} {co
     frame_t : q ≡ replacing_in q t
     frame_t = subst (λ (w : Parts P C). q ≡ replacing_in q w) turn.frame frame_y
 
-    journal : journal_of q ≡ journal_of t
-    journal = ap (λ (w : Parts P C). journal_of w) frame_t
-
-    printed : q.printed ≡ t.printed
-    printed = ap (λ (w : Parts P C). w.printed) frame_t
-
     base : q.base ≡ p.base
     base = ap (λ (w : Parts P C). w.base) frame_t
 
     since : q.since ≡ p.since
     since = ap (λ (w : Parts P C). w.since) frame_t
 
+    journal : journal_of q ≡ journal_of t
+    journal = ap (λ (w : Parts P C). journal_of w) frame_t
+
+    printed : q.printed ≡ t.printed
+    printed = ap (λ (w : Parts P C). w.printed) frame_t
+
     module _ (told : Type 0) (knows : IsTold plants told) (counts : Counts) (armed : List Armed) where
       abbrev S : Scene
       S = scene_as p counts armed
 
       abbrev DidSo : Result (Unit {0}) NodeNo → Type 0
-      DidSo j = Did x y (set ms (by.0 - 1) n) at by what told S j
-
-      unseated : (e : NodeNo) → HasNoSeat plants copies S m at dev t q e → DidSo (failed e)
-      unseated e un = did_unseated turn refl refl y n stays base since journal printed told knows counts armed S e un.unseated (λ still. inl still) un.frame
+      DidSo j = DoneAt x y (set ms (by.0 - 1) n) at by what told S j
 
       -- IT HAS ITS SEAT, and then was to replace the copy
 
@@ -324,117 +294,74 @@ module _ {P C : Type 0} {plants : PlantGhosts P} {steadies : SteadyGhosts C} {co
         abbrev z : Parts P C
         z = seat.goes_on.there
 
-        s_renewals : s.renewals ≡ t.renewals
-        s_renewals = ap (λ (w : Parts P C). w.renewals) seat.entered
+        abbrev answer : Result (Unit {0}) ReplaceNo
+        answer = seat.goes_on.answer
+
+        replaced : HasReplaced plants copies n dev s z answer
+        replaced = seat.goes_on.replaced
+
+        same_renewals : s.renewals ≡ t.renewals
+        same_renewals = ap (λ (w : Parts P C). w.renewals) seat.entered
+
+        took : HasActedApart plants by (Replaces dev) t s went
+        took = copies_apart plants by (Replaces dev) m turn.own t s went same_renewals seat.acts
 
         z_book : z.book ≡ b
-        z_book = (replaced_rest plants copies n dev ckpt s z seat.goes_on.answer seat.goes_on.replaced).1 ∙ ap (λ (w : Parts P C). w.book) seat.entered
+        z_book = (replaced_rest plants copies n dev ckpt s z answer replaced).1 ∙ ap (λ (w : Parts P C). w.book) seat.entered
 
-        z_notes : OtherNotesStay by p.had z.had
-        z_notes j other =
-            ap (λ (had : List (List Page)). slice_get had j) (replaced_rest plants copies n dev ckpt s z seat.goes_on.answer seat.goes_on.replaced).2
-            ∙ subst (λ (k : MemberId). OtherNotesStay k p.had s.had) turn.own seat.acts.notes j other
-
-        took : HasMerelyActed plants by (Replaces dev) t s went
-        took = copies_merely plants by (Replaces dev) m turn.own t s went seat.acts
-
-        took_copies : LeavesCopies plants t s went
-        took_copies = leaves_same plants t s went (copies_acted plants m.id t s went seat.acts) s_renewals seat.acts.on.course.alive1 seat.acts.on.course.alive2
-
-        acts_by : ReplacesDevice by.0 dev (replace_stopped seat.goes_on.answer) (u s) (u z)
-        acts_by = subst (λ (j : MemberId). ReplacesDevice j.0 dev (replace_stopped seat.goes_on.answer) (u s) (u z)) own_n seat.goes_on.replaced.replaces
-
-        same_loses : plants.tells → (d : Dev) → (u z).loses d ≡ (u t).loses d
-        same_loses tells d = seat.goes_on.replaced.replaces.loses d ∙ seat.acts.on.loses tells d
-
-        before : plants.tells → console_now (u z) ≡ console_now (u t)
-        before tells = (seat.goes_on.replaced.elsewhere tells).console (u z).now seat.goes_on.replaced.replaces.later (omega arith) ∙ (seat.acts.on.apart tells).console
+        its_renewals : (to : (u z).now ≤ (u q).now) → RenewsIn plants copies n dev ckpt s z (u t) (u q) took.acted.goes.later to (found_of answer)
+        its_renewals to = renews_in plants copies n dev ckpt s z (u t) (u q) took.acted.goes.later to answer replaced
 
         -- IT CLOSED
 
-        module _ (found : Renewed) (is_found : found_of seat.goes_on.answer ≡ Some found) (closed : HasClosedBy plants (left_found S n.id at dev found) n.id z q k_r) (frame_q : q ≡ record z { plant = q.plant; book = q.book }) where
-          found_so : (known : Option Renewed) → RenewsBy known dev (record { renewals = s.renewals; view = u t }) (record { renewals = z.renewals; view = u q }) → RenewsBy known dev (copies_at plants t) (copies_at plants q)
-          found_so known r =
-              subst (λ (rs : Renewals). RenewsBy known dev (record { renewals = rs; view = u t }) (copies_at plants q)) s_renewals
-              (subst (λ (rs : Renewals). RenewsBy known dev (record { renewals = s.renewals; view = u t }) (record { renewals = rs; view = u q })) (sym (ap (λ (w : Parts P C). w.renewals) frame_q)) r)
-
-          renews_ending : (e : Ending) → RenewsAs (Replaces dev) (cut_by e) found (copies_at plants t) (copies_at plants q)
-          renews_ending e = by_ending e (subst (λ (k : Option Renewed). RenewsBy k dev (record { renewals = s.renewals; view = u t }) (record { renewals = z.renewals; view = u q })) is_found
-              (renews_in plants copies n dev ckpt s z (u t) (u q) took.goes.later closed.acts.goes.later seat.goes_on.answer seat.goes_on.replaced)) where
-                by_ending : (f : Ending) → RenewsBy (Some found) dev (record { renewals = s.renewals; view = u t }) (record { renewals = z.renewals; view = u q }) → RenewsAs (Replaces dev) (cut_by f) found (copies_at plants t) (copies_at plants q)
-                by_ending (Unsaid cause) r = found_so None (renews_some plants copies n dev ckpt s z (u t) (u q) took.goes.later closed.acts.goes.later (Some found) r)
-                by_ending _ r = found_so (Some found) r
-
-          closes : DidSo k_r
-          closes =
-              let replaced : HasMerelyActed plants by (Replaces dev) s z went =
-              replaced_merely plants by dev ckpt s z (replace_stopped seat.goes_on.answer) acts_by went (sym (closes_up seat.goes_on.answer found is_found)) (λ e. absurd (cc)) seat.goes_on.replaced.elsewhere in
-              did_closed turn refl refl y n stays base since journal printed told knows counts armed k_r z found (pieces found) (line found) rel (closer counts armed found)
-              (then_merely plants by (Replaces dev) t s z went took replaced)
-              (leaves_then plants t s z went took_copies (replaced_leaves plants copies n dev ckpt s z seat.goes_on.answer went seat.goes_on.replaced (λ e. absurd (cc))))
-              same_loses before ((replaced_rest plants copies n dev ckpt s z seat.goes_on.answer seat.goes_on.replaced).0 ∙ ap (λ (w : Parts P C). w.base) seat.entered)
-              (sym (ap (λ (w : Parts P C). w.batches) frame_q) ∙ ap (λ (w : Parts P C). w.batches) frame_t) z_book z_notes seat.goes_on.replaced.seat
-              (subst (λ (j : MemberId). HasClosedBy plants (left_found S j at dev found) j z q k_r) own_n closed) frame_q renews_ending
+        closes : (found : Renewed) → found_of answer ≡ Some found → HasClosedBy plants (left_found S n.id at dev found) n.id z q k_r → q ≡ record z { plant = q.plant; book = q.book } → DidSo k_r
+        closes found is_found closed frame_q =
+            let end = replaced_closing dev found in
+            let later = closed.acts.goes.later in
+            let renews : RenewsIn plants copies n dev ckpt s z (u t) (u q) took.acted.goes.later later (Some found) =
+            subst (λ (known : Option Renewed). RenewsIn plants copies n dev ckpt s z (u t) (u q) took.acted.goes.later later known) is_found (its_renewals later) in
+            did_closed turn refl refl y n stays base since journal printed told knows counts armed k_r z found end rel
+            (record { pieces = ap (λ (c : Option Batch). once_found (flown_of c) (closes_with by at end rel)) calm; shaped = λ cut old new. refl; play = λ cut. refl })
+            (then_apart plants by (Replaces dev) t s z went took (replaced_apart plants copies n dev ckpt s z by own_n answer went replaced (sym (closes_up answer found is_found)) (λ e. absurd (cc)) (λ e. absurd (cc))))
+            ((replaced_rest plants copies n dev ckpt s z answer replaced).0 ∙ ap (λ (w : Parts P C). w.base) seat.entered)
+            (sym (ap (λ (w : Parts P C). w.batches) frame_q) ∙ ap (λ (w : Parts P C). w.batches) frame_t) z_book replaced.seat
+            (subst (λ (j : MemberId). HasClosedBy plants (left_found S j at dev found) j z q k_r) own_n closed) frame_q
+            (λ cut. renews_of plants copies n dev ckpt s z (u t) (u q) took.acted.goes.later later (known_by cut found) t.renewals q.renewals same_renewals (ap (λ (w : Parts P C). w.renewals) frame_q)
+            (renews_cut plants copies n dev ckpt s z (u t) (u q) took.acted.goes.later later cut found renews))
 
         -- IT DIDN'T CLOSE
 
-        module _ (e : NodeNo) (frame_q : q ≡ stopped_so (failed e) n.id z) (same_stop : stopped_in (failed e) ≡ replace_stopped seat.goes_on.answer) (heard : e ≢ no_node.ConsoleFault)
-            (both : e ≡ no_node.BothLost → IsBothLost z.first_alive z.second_alive) where
-          plant_same : q.plant ≡ z.plant
-          plant_same = let plant_q : (stopped_so (failed e) n.id z).plant ≡ z.plant = plant_so e n.id z in ap (λ (w : Parts P C). w.plant) frame_q ∙ plant_q
-
-          acted_open : HasMerelyActed plants by (Replaces dev) t q (failed e)
-          acted_open = let els_q : plants.tells → Elsewhere dev (u s) (u q) = λ tells. subst (λ (w : P). Elsewhere dev (u s) (plants.view w)) (sym plant_same) (seat.goes_on.replaced.elsewhere tells) in
-              let acts_q : ReplacesDevice by.0 dev (replace_stopped seat.goes_on.answer) (u s) (u q) = subst (λ (w : P). ReplacesDevice by.0 dev (replace_stopped seat.goes_on.answer) (u s) (plants.view w)) (sym plant_same) acts_by in
-              then_merely plants by (Replaces dev) t s q (failed e) took
-              (replaced_merely plants by dev ckpt s q (replace_stopped seat.goes_on.answer) acts_q (failed e) same_stop (λ is_so. heard (error_same e no_node.ConsoleFault is_so)) els_q)
-
-          book_open : e ≡ no_node.Halted → q.book ≡ after_stop b by
-          book_open halted =
-              ap (λ (w : Parts P C). w.book) frame_q ∙ ap (λ (j : NodeNo). (stopped_so (failed j) n.id z).book) halted ∙ ap (λ (c : Book). after_stop c n.id) z_book ∙ ap (λ (j : MemberId). after_stop b j) own_n
-
-          still_said : plants.tells → console_now (u q) ≡ console_now (u t)
-          still_said tells = ap (λ (w : P). console_now (plants.view w)) plant_same ∙ before tells
-
-          did_open : DidSo (failed e)
-          did_open =
-              let renews_open : RenewsBy None dev (copies_at plants t) (copies_at plants q) =
-              let renewals_e : q.renewals ≡ z.renewals = ap (λ (w : Parts P C). w.renewals) frame_q ∙ ap (λ (w : Parts P C). w.renewals) (stays_stopped n.id z z.plant (failed e)) in
-              let to : (u z).now ≤ (u q).now = subst (λ (w : P). (u z).now ≤ (plants.view w).now) (sym plant_same) (omega arith) in
-              subst (λ (rs : Renewals). RenewsBy None dev (record { renewals = rs; view = u t }) (copies_at plants q)) s_renewals
-              (subst (λ (rs : Renewals). RenewsBy None dev (record { renewals = s.renewals; view = u t }) (record { renewals = rs; view = u q })) (sym renewals_e)
-              (renews_some plants copies n dev ckpt s z (u t) (u q) took.goes.later to (found_of seat.goes_on.answer) (renews_in plants copies n dev ckpt s z (u t) (u q) took.goes.later to seat.goes_on.answer seat.goes_on.replaced))) in
-              did_begun turn refl refl y n stays base since journal printed told knows counts armed e (open_begins e heard) acted_open (λ tells d. ap (λ (w : P). (plants.view w).loses d) plant_same ∙ same_loses tells d) still_said renews_open
-              (leaves_then plants t s q (failed e) took_copies
-              (subst (λ (w : Parts P C). LeavesCopies plants s w (failed e)) (sym frame_q)
-              (subst (λ (k : Sides). AreSidesLeft (ends_both (failed e)) (sides_of plants s) k) (sides_stopped plants n.id z e) (replaced_leaves plants copies n dev ckpt s z seat.goes_on.answer (failed e) seat.goes_on.replaced (λ is_so. both (error_same e no_node.BothLost is_so))))))
-              book_open (λ j other. ap (λ (had : List (List Page)). slice_get had j) (ap (λ (w : Parts P C). w.had) frame_q ∙ ap (λ (w : Parts P C). w.had) (stays_stopped n.id z z.plant (failed e))) ∙ z_notes j other)
-
-        opens : (e : NodeNo) → k_r ≡ failed e → q ≡ stopped_so k_r n.id z → stopped_in (failed e) ≡ replace_stopped seat.goes_on.answer → e ≢ no_node.ConsoleFault
-            → (e ≡ no_node.BothLost → IsBothLost z.first_alive z.second_alive) → DidSo k_r
+        opens : (e : NodeNo) → k_r ≡ failed e → q ≡ stopped_so k_r n.id z → stopped_in (failed e) ≡ replace_stopped answer → e ≢ no_node.ConsoleFault
+            → (e ≡ no_node.BothLost → answer ≡ Err no.BothLost) → DidSo k_r
         opens e is_e frame same_stop heard both =
-            subst (λ (j : Result (Unit {0}) NodeNo). DidSo j) (sym is_e) (did_open e (subst (λ (j : Result (Unit {0}) NodeNo). q ≡ stopped_so j n.id z) is_e frame) same_stop heard both)
+            let frame_q : q ≡ stopped_so (failed e) n.id z = subst (λ (j : Result (Unit {0}) NodeNo). q ≡ stopped_so j n.id z) is_e frame in
+            let plant_q : q.plant ≡ z.plant = ap (λ (w : Parts P C). w.plant) frame_q ∙ plant_so e n.id z in
+            let to : (u z).now ≤ (u q).now = subst (λ (w : P). (u z).now ≤ (plants.view w).now) (sym plant_q) (omega arith) in
+            let acts : HasActedApart plants by (Replaces dev) s z (failed e) = replaced_apart plants copies n dev ckpt s z by own_n answer (failed e) replaced same_stop
+            (λ is_so. heard (error_same e no_node.ConsoleFault is_so)) (λ is_so. both (error_same e no_node.BothLost is_so)) in
+            subst (λ (j : Result (Unit {0}) NodeNo). DidSo j) (sym is_e)
+            (did_begun turn refl refl y n stays base since journal printed told knows counts armed e heard
+            (then_apart plants by (Replaces dev) t s q (failed e) took
+            (subst (λ (w : Parts P C). HasActedApart plants by (Replaces dev) s w (failed e)) (sym frame_q) (stopped_apart plants by n.id (Replaces dev) s z (failed e) e acts)))
+            (renews_of plants copies n dev ckpt s z (u t) (u q) took.acted.goes.later to None t.renewals q.renewals same_renewals
+            (ap (λ (w : Parts P C). w.renewals) frame_q ∙ ap (λ (w : Parts P C). w.renewals) (stays_stopped n.id z z.plant (failed e)))
+            (renews_some plants copies n dev ckpt s z (u t) (u q) took.acted.goes.later to (found_of answer) (its_renewals to)))
+            (λ halted. ap (λ (w : Parts P C). w.book) frame_q ∙ ap (λ (j : NodeNo). (stopped_so (failed j) n.id z).book) halted ∙ ap (λ (c : Book). after_stop c n.id) z_book ∙ ap (λ (j : MemberId). after_stop b j) own_n))
 
-        did_by : (answer : Result (Unit {0}) ReplaceNo) → seat.goes_on.answer ≡ answer → FollowsBy plants copies (found_of answer) S n.id at dev answer seat.goes_on.there q k_r → DidSo k_r
+        did_by : (a : Result (Unit {0}) ReplaceNo) → answer ≡ a → FollowsBy plants copies (found_of a) S n.id at dev a z q k_r → DidSo k_r
         did_by (Ok done) is_so follows = closes Replaced (ap found_of is_so) follows.0 follows.1
         did_by (Err no.NotLost) is_so follows = closes NotLost (ap found_of is_so) follows.0 follows.1
         did_by (Err no.Failed) is_so follows = closes LostAgain (ap found_of is_so) follows.0 follows.1
         did_by (Err no.Halted) is_so follows = opens no_node.Halted follows.0 follows.1 (sym (ap replace_stopped is_so)) (λ e. absurd (cc)) (λ e. absurd (cc))
         did_by (Err no.NoMemory) is_so follows = opens no_node.NoMemory follows.0 follows.1 (sym (ap replace_stopped is_so)) (λ e. absurd (cc)) (λ e. absurd (cc))
-        did_by (Err no.BothLost) is_so follows =
-            opens no_node.BothLost follows.0 follows.1 (sym (ap replace_stopped is_so)) (λ e. absurd (cc)) (λ e. lost_still seat.goes_on.replaced is_so) where
-              lost_still : HasReplaced plants copies n dev seat.mid seat.goes_on.there seat.goes_on.answer → seat.goes_on.answer ≡ Err no.BothLost → IsBothLost seat.goes_on.there.first_alive seat.goes_on.there.second_alive
-              lost_still done is_both =
-                  let both = done.both is_both in
-                  let same : seat.goes_on.there ≡ seat.mid = (subst (λ (j : Result (Unit {0}) ReplaceNo). HasReplaced plants copies n dev seat.mid seat.goes_on.there j) is_both done).frame in
-                  (ap (λ (w : Parts P C). w.first_alive) same ∙ both.0, ap (λ (w : Parts P C). w.second_alive) same ∙ both.1)
+        did_by (Err no.BothLost) is_so follows = opens no_node.BothLost follows.0 follows.1 (sym (ap replace_stopped is_so)) (λ e. absurd (cc)) (λ e. is_so)
 
         did_seated : DidSo k_r
-        did_seated = did_by seat.goes_on.answer refl seat.goes_on.follows
+        did_seated = did_by answer refl seat.goes_on.follows
 
       did_so : (k_r : Result (Unit {0}) NodeNo) → ReplacesBy plants copies S m n at dev t q k_r → DidSo k_r
       did_so (Ok done) left = did_seated (Ok done) left
-      did_so (Err e) left = ⊎_elim (unseated e) (did_seated (Err e)) left
+      did_so (Err e) left = ⊎_elim (λ un. did_unseated turn refl refl y n stays base since journal printed told knows counts armed S e un.unseated un.frame) (did_seated (Err e)) left
 
       did : DidSo r
       did =
@@ -447,4 +374,4 @@ module _ {P C : Type 0} {plants : PlantGhosts P} {steadies : SteadyGhosts C} {co
     -- THE LINE
 
     pub replaces_done : LineDone x y (set ms (by.0 - 1) n) at by what r
-    replaces_done = did_done turn refl refl y n stays base since journal printed r did
+    replaces_done = done_so x y (set ms (by.0 - 1) n) at by what r base since did (λ e. turn.inside)

@@ -1,14 +1,17 @@
 -- A line whose member takes the lock of a stopped member over, and resets that.
-use Rattle.mas_run.proofs.Names.{◌≡◌, ⊎_elim, inl, ℕ, ◌+◌, ◌-◌, true, false, List, [], ◌++◌, set, append-nil, None, Result, Ok, Err, sym, ◌∙◌, ap, subst, slice_get, ◌≤◌, length, refl, arith, inr, ◌<◌, Bool, if◌then◌else◌, ◌∷◌, All, Some, OnOk, slice_set, Option, MemberId, Page, Book, after_stop, IsMember, after_seize, is_holder, left_of as hold_left, PlantGhosts, View, Ghosts as CopyGhosts, SteadyGhosts, Complex, Parts, parts_of, console_now, Grows, Member, NodeNo, OtherNotesStay, journal_of, Ask, admitted, TakesOver, granted_by, Piece, holder_of, queue_found, KeepCopies, LeavesSome, LineIsLeft, LineDone, line_by, IsBetween, BetweenLines, IsMemberUp, LeftBetween, proceeds_of, EachSays, All-nil, All-cons, All-head, All-tail, Ckpt1, Ckpt2, Spool, Queue, steps_most, page_count, queue_of, IsQuiet, IsOfEarlier, StandsIn, Since, seized_since, Dev, Batch, run, IsLostOnce, KeepsCounts, PairState, pair_state, in_flight, kept_all, counts_of, is_stop, Spares, earlier_kept, IsBetweenSittings, cause_by, MayHold, ByLock, ForStep, Holder, Give, level_most, play_as, settle, settled_at, CopiesLeft, HasTakenOver, IsAfterTakeover, IsUntaken, MayTakeAt, TakeCauses, TakesAndResets, TakesBy, taker_at, untaken_book, IsTaken, journal_still, settled_entries, played_in, Entry, Fate, Flying, Rose, LosesAs, IsWhyLost, kept_on, Disk, IsResetPiece, clear, flight_found, flown_of, once_found, reset_pieces, scene_as, wires_then, ◌≢◌, IsUp, few_of, inside_of, some_of}
-use Rattle.mas_run.proofs.ArmLemmas.{IsTold, few_levels, left_so, done_at, InArm, InPlace}
-use Rattle.mas_run.proofs.CopiesLemmas.{copies_then, leaves_same, acted_copies}
-use Rattle.mas_run.proofs.TurnedLemmas.{earlier_then, HasWritten, IsNowAside, turned, held_halted}
+use Rattle.mas_run.proofs.Names.{All, All-weaker, Ask, Batch, BetweenLines, Book, Bool, ByLock, Ckpt1, Ckpt2, Complex, CopiesLeft, Dev, Disk, EachSays, Entry, Err, Fate, Flying, ForStep, Fresh, Ghosts as CopyGhosts, Give, Grows, HasTakenOver, Holder, IsAfterTakeover, IsBetween, IsBetweenSittings, IsLostOnce, IsMember, IsMemberUp, IsOfEarlier, IsQuiet, IsResetPiece, IsTaken, IsUntaken, IsUp, IsWhyLost, KeepCopies, KeepsCounts, LeavesSome, LeftBetween, LineDone, LineIsLeft, List, LosesAs, MayHold, MayTakeAt, Member, MemberId, NodeNo, None, Ok, OnOk, Option, OtherNotesStay, Page, PairState, Parts, Piece, PlantGhosts, Queue, Result, Since, Some, Spares, Spool, StandsIn, SteadyGhosts, TakeCauses, TakesAndResets, TakesBy, TakesOver, View, [], admitted, after_seize, after_stop, ap, append-nil, arith, clear, console, console_now, counted, counts_of, earlier_kept, failed, false, few_of, flight_found, flown_of, granted_by, holder_of, if◌then◌else◌, in_flight, inl, inr, inside_of, is_holder, is_stop, journal_of, journal_still, kept_all, kept_on, left_of as hold_left, length, level_most, levels_for, line_by, next, once_found, other, page_count, pair_state, parts_of, played_in, proceeds_of, queue_found, queue_of, refl, reset_pieces, run, scene_as, seized_since, set, settled_at, settled_entries, slice_get, slice_set, some_of, steps_most, stops, subst, sym, taker_at, true, untaken_book, whole_pieces, wires_then, ℕ, ⊎_elim, ◌++◌, ◌+◌, ◌-◌, ◌<◌, ◌∙◌, ◌≡◌, ◌≢◌, ◌≤◌}
+use Rattle.mas_run.proofs.ArmLemmas.{IsTold, few_levels, left_so, done_at, done_of, done_so, InArm, InPlace}
+use Rattle.mas_run.proofs.CopiesLemmas.{copies_of, copies_then, leaves_same, acted_copies}
+use Rattle.std.proofs.lemmas.List.Elements.{All-map}
+use Rattle.mas_run.proofs.TurnedLemmas.{earlier_to, HasWritten, IsNowAside, turned, held_halted}
 use Rattle.mas_run.proofs.KnownLemmas.{IsDown, not_holder}
-use Rattle.mas_run.proofs.BarelyLemmas.{begun_sight, HasBarelyBegun, MayBegin, begins_left, begun_book}
-use Rattle.mas_run.proofs.DoneLemmas.{reset_says, ComesTo, reset_honest, stepped_left}
+use Rattle.mas_run.proofs.BarelyLemmas.{HasMerelyActed, begins_left, told_honest}
+use Rattle.mas_run.proofs.SeatLemmas.{error_same}
+use Rattle.mas_run.proofs.DoneLemmas.{reset_says, ComesTo, stepped_left}
 use Rattle.mas_run.proofs.JournalLemmas.{queue_met, flies_so}
 use Rattle.member_resets.proofs.TakenOnLemmas.{may_hold, seized_now, up_still, journal_holds}
 use Rattle.mas_run.proofs.LeftLemmas.{counted_stays, stays_any}
+use Rattle.member_node.specs.Reads.{too_high}
 use Rattle.mas_run.proofs.ClosesLemmas.{scene_at}
 use Rattle.member_node.specs.declared.member.NodeNo.TheVariants as no_node
 use Rattle.mas_types.specs.declared.commands.Command.TheVariants as command
@@ -50,50 +53,17 @@ module _ {P C : Type 0} (plants : PlantGhosts P) (copies : CopyGhosts C) (by of 
     stay = counted_stays by.0 false (pair_state plants.view x) (pair_state plants.view mid) taken.counts;
   }
 
-  may_begin : (x y : Parts P C) (e : NodeNo) → TakeCauses plants copies e by x y → MayBegin e
-  may_begin x y no_node.ConsoleFault cause = cause
-  may_begin x y _ cause = tt
-
-  barely_untaken : (x y : Parts P C) (e : NodeNo) → IsUntaken plants copies by of x y e → HasBarelyBegun plants copies.reads by (TakesOver of) x y e
-  barely_untaken x y e un = record {
-    acted = record {
-      goes = proceeds_of (plant_of x) (plant_of y) un.counts.goes;
-      stays = λ d other. un.counts.goes.lost (Disk d);
-      arms = un.counts.goes.arms;
-      spares = counts_spare by.0 (is_stop e) (pair_state plants.view x) (pair_state plants.view y) un.counts (λ is. some);
-      stopped = λ is. caused_stop e (same_error e no_node.Halted is) un.cause;
-      failed = λ is. absurd (subst (λ (k : NodeNo). TakeCauses plants copies k by x y) (same_error e no_node.ConsoleFault is) un.cause);
-      papers = λ t. (un.apart t).papers;
-      wires = λ t. (un.apart t).wires;
-      volumes = λ t. kept_on (plant_of x) (plant_of y) (un.apart t).volumes;
-      stay = counted_stays by.0 (is_stop e) (pair_state plants.view x) (pair_state plants.view y) un.counts;
-    };
-    loses = λ t. counts_lose by.0 (is_stop e) (pair_state plants.view x) (pair_state plants.view y) un.counts copies.reads Flying (λ was gone. inl refl) (λ was gone. inl refl);
-    console = λ t. (un.apart t).console;
-    journal = un.journal;
-    printed = un.printed;
-  } where
-    caused_stop : (k : NodeNo) → k ≡ no_node.Halted → TakeCauses plants copies k by x y → Rose ((plant_of x).stops by.0) ((plant_of y).stops by.0)
-    caused_stop k is cause = subst (λ (j : NodeNo). TakeCauses plants copies j by x y) is cause
-
-    same_error : (d e : NodeNo) → (let r : Result (Unit {0}) NodeNo = Err d in r) ≡ Err e → d ≡ e
-    same_error d e is = cc
-
 -- BATCHES OF EARLIER LINES
 
 -- a fate leaves the entries
-earlier_settled : (at : ℕ) (f : Fate) (now : ℕ) (bs : List Batch) → All (IsOfEarlier at) bs → All (IsOfEarlier at) (settle f now bs)
-earlier_settled at f now [] are = All-nil (IsOfEarlier at)
-earlier_settled at f now (b ∷ bs) are =
-    All-cons (IsOfEarlier at) (settled_at f now b) (settle f now bs)
-    (subst (λ (es : List Entry). All (λ (e : Entry). e.step < at) es) (sym (settled_entries f now b)) (All-head (IsOfEarlier at) b bs are))
-    (earlier_settled at f now bs (All-tail (IsOfEarlier at) b bs are))
-
 earlier_taken : {P C : Type 0} (plants : PlantGhosts P) (copies : CopyGhosts C) (x mid : Parts P C) (by of : MemberId) (at : ℕ) (found : Fate) → IsTaken plants copies by of x mid found → StandsIn x.batches x.placed x.book x.current
     → All (IsOfEarlier at) (x.batches ++ in_flight x.current) → All (IsOfEarlier at) mid.batches
 earlier_taken plants copies x mid by of at found taken stands earlier =
+    let now : ℕ = (plants.view mid.plant).now in
     subst (λ (bs : List Batch). All (IsOfEarlier at) bs) (sym taken.journal ∙ journal_still mid taken.quiet.none taken.quiet.unplaced)
-    (earlier_settled at found (plants.view mid.plant).now (journal_of x) (journal_holds (IsOfEarlier at) x.batches x.placed x.book x.current stands earlier))
+    (All-map (IsOfEarlier at) (settled_at found now) (journal_of x) (All-weaker (IsOfEarlier at) (λ (b : Batch). IsOfEarlier at (settled_at found now b))
+    (λ b of. subst (λ (es : List Entry). All (λ (e : Entry). e.step < at) es) (sym (settled_entries found now b)) of) (journal_of x)
+    (journal_holds (IsOfEarlier at) x.batches x.placed x.book x.current stands earlier)))
 
 -- THE COPIES in calls that may lose one
 
@@ -106,26 +76,41 @@ module _ {P C : Type 0} (plants : PlantGhosts P) where
 
   copies_counted : {T : Type 0} (by : ℕ) (stopped : Bool) (x y : Parts P C) (r : Result T NodeNo) → KeepsCounts by stopped (pair_state plants.view x) (pair_state plants.view y)
       → LeavesSome plants x y r → KeepCopies plants x y r
-  copies_counted by stopped x y r counts left = record {
-    goes = proceeds_of (v x) (v y) counts.goes;
-    failed1 = counts.first.gone;
-    failed2 = counts.second.gone;
-    there1 = λ is there. counts.first.stands.0 is (there (counts.first.alive is));
-    there2 = λ is there. counts.second.stands.0 is (there (counts.second.alive is));
-    grow = grow;
-    left = left;
-  } where
+  copies_counted by stopped x y r counts left = copies_of plants x y r (assumption (counts, grow)) left where
     grow : (d : Dev) → Grows ((v x).loses d) ((v y).loses d)
     grow Ckpt1 = grows_once x.first_alive y.first_alive _ _ counts.first.once
     grow Ckpt2 = grows_once x.second_alive y.second_alive _ _ counts.second.once
     grow (Spool n) = inl (counts.else_loses (Spool n) (λ e. absurd (cc)) (λ e. absurd (cc)))
 
--- a takeover that left no copy answers so
-taken_leaves : {P C : Type 0} (plants : PlantGhosts P) (copies : CopyGhosts C) (by : MemberId) (x y : Parts P C) (e : NodeNo) → TakeCauses plants copies e by x y → CopiesLeft plants copies e y
-    → LeavesSome plants {T = Unit {0}} x y (Err e)
-taken_leaves plants copies by x y no_node.BothLost cause left = cause
-taken_leaves plants copies by x y no_node.ConsoleFault cause left = absurd cause
-taken_leaves plants copies by x y _ cause left = inl (inl left)
+-- NOTHING WAS FOUND OUT of a batch in flight
+
+module _ {P C : Type 0} (plants : PlantGhosts P) (copies : CopyGhosts C) (by of : MemberId) (some : 1 ≤ by.0) (x y : Parts P C) where
+  abbrev u : Parts P C → View
+  u z = plants.view z.plant
+
+  -- one that left no copy answers so
+  taken_leaves : (e : NodeNo) → TakeCauses plants copies e by x y → CopiesLeft plants copies e y → LeavesSome plants {T = Unit {0}} x y (Err e)
+  taken_leaves no_node.BothLost cause left = cause
+  taken_leaves no_node.ConsoleFault cause left = absurd cause
+  taken_leaves _ cause left = inl (inl left)
+
+  merely_untaken : (e : NodeNo) → IsUntaken plants copies by of x y e → y.renewals ≡ x.renewals → HasMerelyActed plants by (TakesOver of) x y (failed e)
+  merely_untaken e un renewals =
+      let s = pair_state plants.view x in
+      let t = pair_state plants.view y in
+      let caused : (k : NodeNo) → failed e ≡ failed k → TakeCauses plants copies k by x y = λ k is. subst (λ (j : NodeNo). TakeCauses plants copies j by x y) (error_same e k is) un.cause in record {
+        goes = proceeds_of (u x) (u y) un.counts.goes;
+        stays = λ d other. un.counts.goes.lost (Disk d);
+        arms = un.counts.goes.arms;
+        spares = counts_spare by.0 (is_stop e) s t un.counts (λ is. some);
+        stopped = caused no_node.Halted;
+        failed = λ is. absurd (caused no_node.ConsoleFault is);
+        papers = λ o. (un.apart o).papers;
+        wires = λ o. (un.apart o).wires;
+        volumes = λ o. kept_on (u x) (u y) (un.apart o).volumes;
+        stay = counted_stays by.0 (is_stop e) s t un.counts;
+        kept = leaves_same plants x y (failed e) (copies_counted plants by.0 (is_stop e) x y (failed e) un.counts (taken_leaves e un.cause un.some)) renewals un.counts.first.alive un.counts.second.alive;
+      }
 
 module _ {P C : Type 0} {plants : PlantGhosts P} {steadies : SteadyGhosts C} {copies : CopyGhosts C} (x mid y : Complex P C plants steadies copies) (ms : List Member)
     (at : ℕ) (what : Ask) (few : at ≤ steps_most) (is : BetweenLines x ms at) (frame : parts_of mid ≡ parts_of x) (m : Member) (inside : IsMember x.book m.id)
@@ -161,36 +146,30 @@ module _ {P C : Type 0} {plants : PlantGhosts P} {steadies : SteadyGhosts C} {co
   -- NOTHING WAS FOUND OUT of a batch in flight
 
   module _ (e : NodeNo) (un : IsUntaken plants copies by of p (parts_of y) e) where
-    abbrev r_none : Result (Unit {0}) NodeNo
-    r_none = Err e
+    merely : HasMerelyActed plants by (TakesOver of) p (parts_of y) (failed e)
+    merely = merely_untaken plants copies by of may.some p (parts_of y) e un renewals
 
     book_stopped : e ≡ no_node.Halted → (parts_of y).book ≡ after_stop b by
     book_stopped halted = un.book ∙ ap (λ (k : NodeNo). untaken_book k by of x.book) halted
 
     halted_none : e ≡ no_node.Halted → LeftBetween y (set ms (by.0 - 1) n) (at + 1)
     halted_none halted =
-        held_halted p y base since by may.seated b seized b_mine (book_stopped halted) (proceeds_of (plants.view p.plant) (plants.view y.plant) un.counts.goes) (λ j other. ap (λ (h : List (List Page)). slice_get h j) un.had)
+        held_halted p y base since by may.seated b seized b_mine (book_stopped halted) merely.goes (λ j other. ap (λ (h : List (List Page)). slice_get h j) un.had)
         n ms at few is stays
-        (earlier_then at (journal_of (parts_of y)) (subst (λ (bs : List Batch). All (IsOfEarlier at) bs) (sym un.journal) (journal_holds (IsOfEarlier at) p.batches p.placed p.book p.current is.stands is.earlier)))
+        (earlier_to at (at + 1) (omega arith) (journal_of (parts_of y)) (subst (λ (bs : List Batch). All (IsOfEarlier at) bs) (sym un.journal) (journal_holds (IsOfEarlier at) p.batches p.placed p.book p.current is.stands is.earlier)))
         (λ tells. ([], (un.apart tells).console ∙ sym (append-nil (console_now (plants.view p.plant))), (λ k less small es of. tt)))
 
-    none_done : LineDone x y (set ms (by.0 - 1) n) at by what r_none
+    none_done : LineDone x y (set ms (by.0 - 1) n) at by what (failed e)
     none_done =
-        let left_none : (told : Type 0) → IsTold plants told → LineIsLeft told at (line_by by what) x y r_none =
-        λ told knows counts armed counted. begins_left plants copies told (scene_as p counts armed) at by what p (parts_of y) e (TakesOver of) adm renewals (may_begin plants copies by of may.some p (parts_of y) e un.cause)
-        (barely_untaken plants copies by of may.some p (parts_of y) e un)
-        (λ ps. begun_book by (play_as (record { scene = scene_as p counts armed; number = at; step = line_by by what; given = record { sight = begun_sight (cause_by e); pieces = ps } }) (TakesOver of)) (counts by)
-        (up_still x.book by of may.of_stopped may.of_holds may.up may.seated) b_mine e y.book book_stopped) knows in
-        let failed_by : NodeNo → Result (Unit {0}) NodeNo = λ e. Err e in let same_answer : (d e : NodeNo) → failed_by d ≡ failed_by e → d ≡ e = λ d e is. cc in record {
-          base = base;
-          since = since;
-          bare = left_none ⊥ (inl (λ t. t));
-          told = λ tells. left_none (Unit {0}) (inr (tt, tells));
-          copies_kept = leaves_same plants p (parts_of y) r_none (copies_counted plants by.0 (is_stop e) p (parts_of y) r_none un.counts (taken_leaves plants copies by p (parts_of y) e un.cause un.some)) renewals un.counts.first.alive un.counts.second.alive;
+        done_so x y (set ms (by.0 - 1) n) at by what (failed e) base since
+        (λ told knows counts armed. record {
+          left = λ counted. begins_left plants copies told (scene_as p counts armed) at by what p (parts_of y) e (TakesOver of) adm renewals (λ is_so. subst (λ (k : NodeNo). TakeCauses plants copies k by p (parts_of y)) is_so un.cause) merely
+              (λ o. counts_lose by.0 (is_stop e) (pair_state plants.view p) (pair_state plants.view (parts_of y)) un.counts copies.reads Flying (λ was gone. inl refl) (λ was gone. inl refl)) (λ o. (un.apart o).console) un.journal un.printed
+              (λ halted. (up_still x.book by of may.of_stopped may.of_holds may.up may.seated, b_mine, book_stopped halted)) knows;
+          kept = merely.kept;
           next = tt;
-          halted = λ is_halted. halted_none (same_answer e no_node.Halted is_halted);
-          seated = λ is_halted. inside;
-        }
+          halted = λ is_halted. halted_none (error_same e no_node.Halted is_halted);
+        }) (λ is_halted. inside)
 
   -- AND THEN THE RESET
 
@@ -227,7 +206,7 @@ module _ {P C : Type 0} {plants : PlantGhosts P} {steadies : SteadyGhosts C} {co
     queue_t =
         ap (λ (Q : Queue). run Q (kept_all t.batches)) takes.base
         ∙ ap (λ (bs : List Batch). run x.base (kept_all bs)) (sym (journal_still t takes.taken.quiet.none takes.taken.quiet.unplaced) ∙ takes.taken.journal)
-        ∙ queue_met x.base p.batches p.placed x.book p.current (plants.view p.plant).now (plants.view t.plant).now is.stands is.settled (flown_of p.current) (flies_so p.batches p.placed x.book p.current is.stands) takes.found
+        ∙ queue_met p.batches p.placed x.book p.current (plants.view p.plant).now is.stands is.settled x.base (plants.view t.plant).now (flown_of p.current) (flies_so p.batches p.placed x.book p.current is.stands) takes.found
 
     left : (told : Type 0) → IsTold plants told → LineIsLeft told at (line_by by what) x y r
     left told (inl none) counts armed counted =
@@ -243,7 +222,7 @@ module _ {P C : Type 0} {plants : PlantGhosts P} {steadies : SteadyGhosts C} {co
         (unflown so.pieces) (sym takes.taken.book) refl (plants.view t.plant).now (comes_taken plants copies by of may.some told (λ o. known.1) takes.found p t takes.taken) so.left takes.reset.acts (inl known.0) so.tight
         (λ o. record {
           right = so.is ∙ ap (λ (R : Queue). reset_pieces R k of) queue_t ∙ ap (λ (j : Holder). reset_pieces Q j of) (sym holder_here);
-          honest = reset_honest (queue_of p).config.groups by (plants.view p.plant) (plants.view y.plant) (queue_of t) k of so.pieces r so.cut Q so.is so.left.by_answer;
+          honest = told_honest (queue_of p).config.groups by (plants.view p.plant) (plants.view y.plant) (whole_pieces so.cut so.pieces) so.pieces _ so.is refl Q;
           stay = stays_any _ (plants.view t.plant) (plants.view y.plant) takes.reset.volumes;
           broke = so.broke;
           dry = λ none. takes.reset.papers known.1;
@@ -265,16 +244,10 @@ module _ {P C : Type 0} {plants : PlantGhosts P} {steadies : SteadyGhosts C} {co
         let base_t : y.base ≡ t.base = base ∙ sym takes.base in let t_since : Since x.book t.book = subst (λ (c : Book). Since x.book c) (sym takes.taken.book) seized in
         let hold_t : MayHold t.book by = may_hold plants copies p t m at of may takes.found takes.taken takes.base takes.since in
         let both = turned x y t ms k few is takes.base takes.since t_since hold_t earlier takes.taken.counts.goes (λ o. (takes.taken.apart o).console) base_t since_t n stays
-        takes.reset.pieces takes.reset.cut takes.reset.away quiet_all notes takes.reset.acts.course.goes r takes.reset.played wrote (now_of r after) in record {
-          base = base;
-          since = since;
-          bare = left ⊥ (inl (λ o. o));
-          told = λ tells. left (Unit {0}) (inr (tt, tells));
-          copies_kept = leaves_same plants p (parts_of y) r on_copies renewals (λ is. takes.taken.counts.first.alive (takes.reset.acts.course.alive1 is)) (λ is. takes.taken.counts.second.alive (takes.reset.acts.course.alive2 is));
-          next = both.0;
-          halted = both.1;
-          seated = λ e. inside;
-        }
+        takes.reset.pieces takes.reset.cut takes.reset.away quiet_all notes takes.reset.acts.course.goes r takes.reset.played wrote (now_of r after) in
+        done_of x y (set ms (by.0 - 1) n) at by what r base since left
+        (leaves_same plants p (parts_of y) r on_copies renewals (λ is. takes.taken.counts.first.alive (takes.reset.acts.course.alive1 is)) (λ is. takes.taken.counts.second.alive (takes.reset.acts.course.alive2 is)))
+        both.0 both.1 (λ e. inside)
 
   done_by : (r : Result (Unit {0}) NodeNo) → TakesBy plants copies by at of p (parts_of y) (length m.room) r → OnOk r (IsAfterTakeover mid y m n) → LineDone x y (set ms (by.0 - 1) n) at by what r
   done_by (Ok done) takes after = takes_done (Ok done) takes after
@@ -288,29 +261,25 @@ module _ {P C : Type 0} {plants : PlantGhosts P} {steadies : SteadyGhosts C} {co
 may_take : {P C : Type 0} (plants : PlantGhosts P) (copies : CopyGhosts C) (x : Parts P C) (ms : List Member) (at : ℕ) (few : at ≤ steps_most) (is : IsBetween plants copies x ms at)
     (below : x.level < level_most) (m : Member) (up : IsMemberUp plants copies x m) (its : IsUp x.base.config x.book m.id) (of : MemberId)
     (down : IsDown x.base is.config x.book m.id of) (holds : is_holder x.book of ≡ true) → MayTakeAt plants copies x m at of
-may_take plants copies x ms at few is below m up its of down holds = record {
-  stands = is.stands;
-  idle = up.idle;
-  noted = up.noted;
-  config = up.config;
-  fits = is.config;
-  some = some_of x.base.config m.id its.member;
-  least = few_of x.base.config m.id its.member is.config;
-  member = its.member;
-  seated = inside_of x.base.config m.id its.member x.book is.booked;
-  up = its.up;
-  of_seated = inside_of x.base.config of down.member x.book is.booked;
-  of_stopped = down.down;
-  of_holds = holds;
-  few = few_of x.base.config of down.member is.config;
-  base_sound = λ t. is.sound;
-  roomy = is.roomy;
-  untold = is.untold m.id at (omega arith) few;
-  step = earlier_kept m.id at (plants.view x.plant).now (x.batches ++ in_flight x.current) is.earlier;
-  begun = is.begun;
-  givable = down.givable its.member;
-  level = let most = few_levels (Give (command.Reset of)) tt in omega (arith, below, most);
-}
+may_take plants copies x ms at few is below m up its of down holds =
+    let level : x.level + 1 + levels_for (Fresh (Give (command.Reset of))) + 3 < too_high = let most = few_levels (Give (command.Reset of)) tt in omega (arith, below, most) in
+    let kept = earlier_kept m.id at (plants.view x.plant).now (x.batches ++ in_flight x.current) is.earlier in
+    assumption (
+      some_of x.base.config m.id its.member,
+      few_of x.base.config m.id its.member is.config,
+      inside_of x.base.config m.id its.member x.book is.booked,
+      inside_of x.base.config of down.member x.book is.booked,
+      few_of x.base.config of down.member is.config,
+      is.untold m.id at (omega arith) few,
+      kept,
+      down.givable its.member,
+      level,
+      holds,
+      is,
+      up,
+      its,
+      down,
+    )
 
 -- AS ITS DRIVER HAS IT
 

@@ -1,13 +1,17 @@
 -- Where the value stands after a line of a member: after acts on the plant, after a line that was said, and after a step.
-use Rattle.mas_run.proofs.Names.{◌≡◌, ◌≢◌, ◌⊎◌, inl, inr, ⊎_elim, ℕ, zero, suc, ◌+◌, ◌<◌, Bool, true, false, List, [], ◌∷◌, drop, length, take, All, Option, Some, None, refl, sym, subst, arith, ◌≤◌, ◌++◌, ◌∙◌, ap, ◌-◌, set, Result, Err, OnOk, ◌&&◌, if◌then◌else◌, ◌||◌, is_some, append-nil, All-append, All-cons, All-head, All-nil, All-tail, All-take, All-weaker, Closing, MemberId, Batch, Entry, Fate, Dropped, Queue, run, holder_then, task_most, all_entries, lines_of, sit, Found, Holder, State, Fresh, Told, AreOf, AreBatched, IsBatched, IsBetweenSittings, IsAsideHalt, IsCutIn as IsCutBy, IsOwnPiece, HasCut, Writes, plays_left_of as left_of, play_in, Admission, Denied, Plays, Refused, Replaces, Resets, TakesOver, Unplayed, denied_closing, Left, adds, adds_all, adds_first, begun, left_by, none_left, stopped_by, Piece, Play, holder_of, once_found, piece_at, pieces_found, pieces_from, pieces_of, replaced_closing, reset_closing, unless_told, after_piece, entered, released_by, spent, Batched, Scene, count_then, Cut, Halt, Sight, Cause, Stops, Waiting, IsOfEarlier, StandsIn, AreOfStep, EachSays, closing_of, reply_of, TellNone, Untells, untold_then, left_tells, Dev, Ckpt1, Ckpt2, Page, Config, steps_most, PlantGhosts, ViewLine as Line, View, disk_now, Ghosts as CopyGhosts, page_count, settled_later, Parts, parts_of, batches_left, placed_left, unreserved_in, console_now, Member, IsOpen, IsAtRest, IsSeat, first_half, second_half, HasUntold, queue_of, low_later, IsQuiet, IsAside, Proceeds, AreLarge, AreMembers, IsBetween, IsMemberAt, is_left_held, BetweenLines, LeftBetween, roomy_on, Book, is_holder, is_stopped, IsMember, after_free, beginner, noted, standing, with_holder, after_try, granted, ticked, try_refusal, eqb-true, and_from, length-set, get_or-set_same, length-drop, IsConfig, nobody, is_somebody, IsSound, AreRoomy, AreSettled, in_flight, end_of, with_last, OtherNotesStay, Since, inside_since, piece_since, play_since, play_stops, spent_since, then_since, goes_on, SteadyGhosts, Complex, IsOperatorAway, Goes, NodeNo, MayHold, proceeds_of, nat_tests, Standing, counts_of, journal_of, Release, Inner, Keep, Outer, journal_still, with_last-append, journal_unreserved, settled_unreserved, stands_unreserved, IsMemberUp, none_since, slice_get, no, after_stop, stopped_now, stopped_since, CallsKeep, adds_keeps, left_keeps, seize_refusal, batches_are, between_by}
+use Rattle.mas_run.proofs.Names.{◌≡◌, ◌≢◌, ◌⊎◌, inl, inr, ⊎_elim, ℕ, zero, suc, ◌+◌, ◌<◌, Bool, true, false, List, [], ◌∷◌, drop, length, take, All, Option, Some, None, refl, sym, subst, arith, ◌≤◌, ◌++◌, ◌∙◌, ap, ◌-◌, set, Result, Err, OnOk, ◌&&◌, append-nil, All-append, All-cons, All-head, All-nil, All-tail, All-take, All-weaker, Closing, MemberId, Batch, Entry, Queue, run, holder_then, task_most, all_entries, lines_of, sit, Found, Holder, State, Fresh, Told, AreOf, AreBatched, IsBetweenSittings, IsAsideHalt, IsCutIn as IsCutBy, IsOwnPiece, HasCut, Writes, plays_left_of as left_of, play_in, Admission, Denied, Plays, Refused, Replaces, Resets, TakesOver, Unplayed, denied_closing, Left, adds, adds_all, adds_first, begun, left_by, none_left, stopped_by, Piece, Play, holder_of, once_found, piece_at, pieces_found, pieces_from, pieces_of, replaced_closing, reset_closing, unless_told, after_piece, entered, released_by, spent, Batched, Scene, count_then, Cut, Halt, Sight, Cause, Stops, Waiting, IsOfEarlier, StandsIn, AreOfStep, EachSays, closing_of, reply_of, TellNone, Untells, untold_then, left_tells, Dev, Ckpt1, Ckpt2, Page, steps_most, PlantGhosts, ViewLine as Line, View, disk_now, Ghosts as CopyGhosts, page_count, settled_later, Parts, parts_of, unreserved_in, console_now, Member, IsSeat, HasUntold, queue_of, IsQuiet, IsAside, Proceeds, AreLarge, AreMembers, IsBetween, IsMemberAt, is_left_held, BetweenLines, LeftBetween, roomy_on, Book, is_holder, is_stopped, IsMember, noted, eqb-true, and_from, length-set, length-drop, IsConfig, nobody, is_somebody, IsSound, AreRoomy, AreSettled, in_flight, end_of, with_last, OtherNotesStay, Since, inside_since, piece_since, play_since, play_stops, then_since, goes_on, SteadyGhosts, Complex, IsOperatorAway, Goes, NodeNo, MayHold, proceeds_of, nat_tests, counts_of, journal_of, Release, Inner, Keep, Outer, journal_still, with_last-append, journal_unreserved, settled_unreserved, stands_unreserved, IsMemberUp, none_since, slice_get, no, after_stop, stopped_now, stopped_since, CallsKeep, adds_keeps, left_keeps, batches_are, as_history, with_fate}
 use Rattle.step_turns.proofs.Causes.{lines_are_caused}
 use Rattle.step_turns.proofs.Sittings.{lines_are_said_at_the_end}
 use Rattle.ckpt_places.specs.declared.places.Place.{Place}
-use Rattle.member_node.specs.Reads.{IsCalm}
+use Rattle.member_node.specs.Copies.{RestsAt}
+use Rattle.run_opening.proofs.QuietLemmas.{quiet_on}
 use Rattle.member_resets.proofs.Entering.{entered_seated}
 use Rattle.member_resets.proofs.Locking.{acts_entered, up_spent}
+use Rattle.member_resets.proofs.BookLemmas.{calls_keep, same_calls}
 use Rattle.run_turns.proofs.Told.{told_or}
 use Rattle.mas_run.proofs.LeftLemmas.{on_ok}
+use Rattle.mas_run.proofs.JournalLemmas.{history_own}
+use Rattle.member_resets.proofs.Halting.{all_back, all_front}
 use Rattle.mas_types.specs.declared.answers.Closing.TheVariants as closing
 use Rattle.mas_types.specs.declared.commands.Reply.TheVariants as reply
 use Rattle.member_node.specs.declared.member.NodeNo.TheVariants as no_node
@@ -73,48 +77,26 @@ module _ (by : MemberId) (at : ℕ) where
   own_left cut play count of =
       batches_are by IsOwn (AreOf by at) own_entries cut (λ k is n b halt es own. All-take (λ (e : Entry). e.step ≡ at) b.entries es (own_entries es own)) play count of
 
-  -- as they stand in the journal
-  its_entries : (f : Fate) (x : Batched) (from now : ℕ) (b : Batch) → IsBatched f by x from now b → b.entries ≡ x.entries
-  its_entries Dropped x from now b is = absurd is
-  its_entries _ x from now b is = is.entries
-
-  earlier_own : (from now : ℕ) (xs : List Batched) (bs : List Batch) → AreBatched by from now xs bs → All IsOwn xs → All (IsOfEarlier (at + 1)) bs
-  earlier_own from now [] [] are own = All-nil (IsOfEarlier (at + 1))
-  earlier_own from now [] (b ∷ bs) are own = absurd are
-  earlier_own from now (x ∷ xs) [] are own = absurd are
-  earlier_own from now (x ∷ xs) (b ∷ bs) are own = let earlier_one : (b : Batch) (es : List Entry) → b.entries ≡ es → All (λ (e : Entry). e.step ≡ at) es → IsOfEarlier (at + 1) b = λ b es is own. subst (λ (fs : List Entry). All (λ (e : Entry). e.step < at + 1) fs) (sym is)
-      (All-weaker (λ (e : Entry). e.step ≡ at) (λ (e : Entry). e.step < at + 1) (λ e same. omega (arith, same)) es own) in
-      All-cons (IsOfEarlier (at + 1)) b bs (earlier_one b x.entries (its_entries x.fate x from now b are.0) (All-head IsOwn x xs own))
-      (earlier_own b.last now xs bs are.1 (All-tail IsOwn x xs own))
+  earlier_own : (bs : List Batch) → All IsOwn (as_history bs) → All (IsOfEarlier (at + 1)) bs
+  earlier_own [] own = All-nil (IsOfEarlier (at + 1))
+  earlier_own (b ∷ bs) own = All-cons (IsOfEarlier (at + 1)) b bs
+      (All-weaker (λ (e : Entry). e.step ≡ at) (λ (e : Entry). e.step < at + 1) (λ e same. omega (arith, same)) b.entries (All-head IsOwn (with_fate b.fate b.entries) (as_history bs) own))
+      (earlier_own bs (All-tail IsOwn (with_fate b.fate b.entries) (as_history bs) own))
 
   left_earlier : (cut : Option Cut) (play : Play) (count from now : ℕ) (bs : List Batch) → All (IsOwnPiece by at) play.pieces → AreBatched by from now (left_by by cut play count).batches bs
       → All (IsOfEarlier (at + 1)) bs
-  left_earlier cut play count from now bs of are = earlier_own from now (left_by by cut play count).batches bs are (own_left cut play count of)
+  left_earlier cut play count from now bs of are = earlier_own bs (subst (λ (xs : List Batched). All IsOwn xs) (sym (history_own by from now (left_by by cut play count).batches bs are)) (own_left cut play count of))
 
 -- A line that was said leaves the value between two lines, or at its member's seat, where no later step is told by it.
 
 -- a device of a copy has the size that the pages need
 large_on : {P C : Type 0} (plants : PlantGhosts P) (copies : CopyGhosts C) (x y : Parts P C) → y.base ≡ x.base → ((d : Dev) → (plants.view y.plant).size d ≡ (plants.view x.plant).size d)
     → AreLarge plants copies x → AreLarge plants copies y
-large_on plants copies x y base size is =
-    let one : (d : Dev) → copies.needs (page_count x.base.config) ≤ (plants.view x.plant).size d → copies.needs (page_count y.base.config) ≤ (plants.view y.plant).size d =
-    λ d le. subst (λ (Q : Queue). copies.needs (page_count Q.config) ≤ (plants.view y.plant).size d) (sym base) (subst (λ (n : ℕ). copies.needs (page_count x.base.config) ≤ n) (sym (size d)) le) in
-    (one Ckpt1 is.0, one Ckpt2 is.1)
+large_on plants copies x y base size is = rw (base, size Ckpt1, size Ckpt2) is
 
--- with another book, and nothing reserved, it is as quiet
-pub quiet_with : {P C : Type 0} (plants : PlantGhosts P) (copies : CopyGhosts C) (x : Parts P C) (c : Book) (o : Option (List Entry)) → o ≡ None → (pages : ℕ) → IsQuiet plants copies x pages
-    → IsQuiet plants copies (record x { book = c; reserved = o }) pages
-quiet_with plants copies x c o none pages q = record {
-  none = q.none;
-  unplaced = q.unplaced;
-  unreserved = none;
-  first = q.first;
-  second = q.second;
-  sound = q.sound;
-  kept = q.kept;
-  begun = q.begun;
-  roomy = q.roomy;
-}
+-- batches of earlier lines than one are of earlier lines than a later one
+pub earlier_to : (at to : ℕ) → at ≤ to → (bs : List Batch) → All (IsOfEarlier at) bs → All (IsOfEarlier to) bs
+earlier_to at to on bs are = All-weaker (IsOfEarlier at) (IsOfEarlier to) (λ b of. All-weaker (λ (e : Entry). e.step < at) (λ (e : Entry). e.step < to) (λ e less. omega (arith, less, on)) b.entries of) bs are
 
 -- FROM ONE VALUE TO A LATER ONE of a run
 
@@ -144,102 +126,49 @@ module _ {P C : Type 0} (plants : PlantGhosts P) (copies : CopyGhosts C) (x y : 
       → AreMembers plants copies y 1 ns → length ns ≡ length ms → y.book.holder.0 ≤ x.base.config.members → y.since ≤ (plants.view y.plant).now
       → ((k : MemberId) (later : ℕ) → to ≤ later → later ≤ steps_most → HasUntold plants copies y k later) → All (IsOfEarlier to) (y.batches ++ in_flight y.current) → to ≤ steps_most + 1
       → IsBetween plants copies y ns to
-  between_on goes ms ns at to is stands settled quiet unreserved members many held begun untold earlier few = record {
-    stands = stands;
-    settled = settled;
-    quiet = quiet;
-    unreserved = unreserved;
-    members = members;
-    many = many ∙ is.many ∙ ap (λ (Q : Queue). Q.config.members) (sym base);
-    booked = since.many ∙ is.booked ∙ ap (λ (Q : Queue). Q.config.members) (sym base);
-    held = subst (λ (Q : Queue). y.book.holder.0 ≤ Q.config.members) (sym base) held;
-    config = subst (λ (Q : Queue). IsConfig Q.config) (sym base) is.config;
-    sound = subst IsSound (sym base) is.sound;
-    begun = begun;
-    roomy = λ t. subst (λ (Q : Queue). AreRoomy (plants.view y.plant) Q.config) (sym base) (roomy_on (plants.view x.plant) (plants.view y.plant) x.base.config goes (is.roomy t));
-    large = large_on plants copies x y base goes.size is.large;
-    untold = untold;
-    earlier = earlier;
-    few = few;
-  }
+  between_on goes ms ns at to is stands settled quiet unreserved members many held begun untold earlier few =
+      let number = many ∙ is.many ∙ ap (λ (Q : Queue). Q.config.members) (sym base) in
+      let booked = since.many ∙ is.booked ∙ ap (λ (Q : Queue). Q.config.members) (sym base) in
+      let within = subst (λ (Q : Queue). y.book.holder.0 ≤ Q.config.members) (sym base) held in
+      let config = subst (λ (Q : Queue). IsConfig Q.config) (sym base) is.config in
+      let roomy : plants.tells → AreRoomy (plants.view y.plant) y.base.config = λ t. subst (λ (Q : Queue). AreRoomy (plants.view y.plant) Q.config) (sym base) (roomy_on (plants.view x.plant) (plants.view y.plant) x.base.config goes (is.roomy t)) in
+      assumption (stands, settled, quiet, unreserved, members, number, booked, within, config, subst IsSound (sym base) is.sound, begun, roomy, large_on plants copies x y base goes.size is.large, untold, earlier, few)
 
 -- The plant went on, and the copies have the bytes that they had; one may count as lost that didn't.
 
 module _ {P C : Type 0} (plants : PlantGhosts P) (copies : CopyGhosts C) (x : Parts P C) (q : P) (is1 is2 : Bool) (found1 found2 : ℕ) (goes : Proceeds (plants.view x.plant) (plants.view q))
     (alive1 : is1 ≡ true → x.first_alive ≡ true) (alive2 : is2 ≡ true → x.second_alive ≡ true)
-    (bytes1 : plants.tells → (disk_now (plants.view q) Ckpt1).bytes ≡ (disk_now (plants.view x.plant) Ckpt1).bytes)
-    (bytes2 : plants.tells → (disk_now (plants.view q) Ckpt2).bytes ≡ (disk_now (plants.view x.plant) Ckpt2).bytes) where
+    (bytes : plants.tells → (d : Dev) → (disk_now (plants.view q) d).bytes ≡ (disk_now (plants.view x.plant) d).bytes) where
   abbrev z : Parts P C
   z = record x { plant = q; first_alive = is1; second_alive = is2; first_found = found1; second_found = found2 }
 
   abbrev v : Parts P C → View
   v w = plants.view w.plant
 
-  -- the copies read as before
-  read1 : plants.tells → (first_half plants copies z).read ≡ (first_half plants copies x).read
-  read1 t = ap (λ (b : List ℕ). copies.reads b) (bytes1 t)
-
-  read2 : plants.tells → (second_half plants copies z).read ≡ (second_half plants copies x).read
-  read2 t = ap (λ (b : List ℕ). copies.reads b) (bytes2 t)
-
-  quiet_spoken : (pages : ℕ) → IsQuiet plants copies x pages → IsQuiet plants copies z pages
-  quiet_spoken pages is =
-      let calm_by : (alive alive' : Bool) (place : Place) (count pages : ℕ) → (alive' ≡ true → alive ≡ true) → IsCalm alive place count pages → IsCalm alive' place count pages = λ alive alive' place count pages was is. record { before = is.before; as_many = λ on. is.as_many (was on) } in
-      let open2 : (config : Config) (n pages : ℕ) → IsOpen plants.tells (second_half plants copies x) config n pages → IsOpen plants.tells (second_half plants copies z) config n pages = λ config n pages is. record {
-        calm = calm_by x.second_alive is2 (second_half plants copies x).place (second_half plants copies x).count pages alive2 is.calm;
-        low = low_later plants.tells x.second_alive is2 config n (second_half plants copies x).read (second_half plants copies z).read alive2 read2 is.low;
-      } in
-      let open1 : (config : Config) (n pages : ℕ) → IsOpen plants.tells (first_half plants copies x) config n pages → IsOpen plants.tells (first_half plants copies z) config n pages = λ config n pages is. record {
-        calm = calm_by x.first_alive is1 (first_half plants copies x).place (first_half plants copies x).count pages alive1 is.calm;
-        low = low_later plants.tells x.first_alive is1 config n (first_half plants copies x).read (first_half plants copies z).read alive1 read1 is.low;
-      } in
-      record {
-        none = is.none;
-        unplaced = is.unplaced;
-        unreserved = is.unreserved;
-        first = open1 x.base.config _ pages is.first;
-        second = open2 x.base.config _ pages is.second;
-        sound = is.sound;
-        kept = settled_later x.batches (v x).now (v z).now is.kept goes.later;
-        begun = let le = is.begun in let on = goes.later in omega (arith, le, on);
-        roomy = λ t. roomy_on (v x) (v z) x.base.config goes (is.roomy t);
-      }
+  -- a copy that counts as alive is at rest as it was
+  rest_on : (d : Dev) (was is : Bool) (place : Place) (count : ℕ) (pages : List Page) → (is ≡ true → was ≡ true) → RestsAt plants.tells was place count pages (copies.reads (disk_now (v x) d).bytes)
+      → RestsAt plants.tells is place count pages (copies.reads (disk_now (v z) d).bytes)
+  rest_on d was is place count pages alive rest = record { before = rest.before; as_many = λ on. rest.as_many (alive on); reads = λ t on. ap copies.reads (bytes t d) ∙ rest.reads t (alive on) }
 
   pub seat_spoken : (m : Member) → IsSeat plants copies x m → IsSeat plants copies z m
   seat_spoken m is =
-      let rest2 : (pages : List Page) → IsAtRest plants.tells (second_half plants copies x) pages → IsAtRest plants.tells (second_half plants copies z) pages = λ pages is. record { before = is.before; as_many = λ on. is.as_many (alive2 on); reads = λ t on. read2 t ∙ is.reads t (alive2 on) } in
-      let rest1 : (pages : List Page) → IsAtRest plants.tells (first_half plants copies x) pages → IsAtRest plants.tells (first_half plants copies z) pages = λ pages is. record { before = is.before; as_many = λ on. is.as_many (alive1 on); reads = λ t on. read1 t ∙ is.reads t (alive1 on) } in
-      record {
-        still = record {
-          holds = is.still.holds;
-          none = is.still.none;
-          unreserved = is.still.unreserved;
-          unplaced = is.still.unplaced;
-          here = is.still.here;
-          many = is.still.many;
-          config = is.still.config;
-          first = rest1 m.checkpoint.pages is.still.first;
-          second = rest2 m.checkpoint.pages is.still.second;
-          kept = settled_later x.batches (v x).now (v z).now is.still.kept goes.later;
-          begun = let le = is.still.begun in let on = goes.later in omega (arith, le, on);
-          roomy = λ t. roomy_on (v x) (v z) x.base.config goes (is.still.roomy t);
-          noted = is.still.noted;
-        };
-        between = between_by plants.tells x z m.batch m.checkpoint refl refl refl refl refl is.between;
-        low = is.low;
-      }
+      let s = is.still in
+      let first = rest_on Ckpt1 x.first_alive is1 _ _ m.checkpoint.pages alive1 s.first in
+      let second = rest_on Ckpt2 x.second_alive is2 _ _ m.checkpoint.pages alive2 s.second in
+      let kept = settled_later x.batches (v x).now (v z).now s.kept goes.later in
+      let begun : x.since ≤ (v z).now = let le = s.begun in let on = goes.later in omega (arith, le, on) in
+      let roomy : plants.tells → AreRoomy (v z) x.base.config = λ t. roomy_on (v x) (v z) x.base.config goes (s.roomy t) in
+      assumption (first, second, kept, begun, roomy, is)
 
-  -- entries of earlier lines than one are of earlier lines than a later one
   -- with lines that tell no step from the next number on
   pub between_said : (ms : List Member) (at to : ℕ) → at ≤ to → to ≤ steps_most + 1
       → (plants.tells → (ls : List Line) × (console_now (v z) ≡ console_now (v x) ++ ls)
       × ((k : ℕ) → to ≤ k → k ≤ steps_most → (es : List Entry) → All (λ (e : Entry). e.step ≡ k) es → Untells es ls))
       → IsBetween plants copies x ms at → IsBetween plants copies z ms to
   between_said ms at to on few lines is =
-      let earlier_to : (at to : ℕ) → at ≤ to → (bs : List Batch) → All (IsOfEarlier at) bs → All (IsOfEarlier to) bs =
-      λ at to on bs are. All-weaker (IsOfEarlier at) (IsOfEarlier to) (λ b of. All-weaker (λ (e : Entry). e.step < at) (λ (e : Entry). e.step < to) (λ e less. omega (arith, less, on)) b.entries of) bs are in
       let same : Since x.book z.book = none_since x.book in
-      between_on plants copies x z refl same goes ms ms at to is is.stands (settled_later x.batches (v x).now (v z).now is.settled goes.later) (λ free. quiet_spoken (page_count x.base.config) (is.quiet free)) is.unreserved
+      between_on plants copies x z refl same goes ms ms at to is is.stands (settled_later x.batches (v x).now (v z).now is.settled goes.later)
+      (λ free. quiet_on plants copies x q is1 is2 found1 found2 goes alive1 alive2 bytes (page_count x.base.config) (is.quiet free)) is.unreserved
       (members_on plants copies x z refl same 1 1 ms (omega arith) (λ k m le its. member_on plants copies x z refl same k m refl (λ was up holds. seat_spoken m (was.seated holds)) its) is.members)
       refl is.held (let le = is.begun in let later = goes.later in omega (arith, le, later))
       (λ by later le small t.
@@ -255,15 +184,10 @@ module _ {P C : Type 0} (plants : PlantGhosts P) (copies : CopyGhosts C) (x : Pa
 
 -- A line after which its member goes on leaves the value between two lines.
 
--- batches of earlier lines than one are of earlier lines than the next
-pub earlier_then : (at : ℕ) (bs : List Batch) → All (IsOfEarlier at) bs → All (IsOfEarlier (at + 1)) bs
-earlier_then at bs are =
-    All-weaker (IsOfEarlier at) (IsOfEarlier (at + 1)) (λ b of. All-weaker (λ e. e.step < at) (λ e. e.step < at + 1) (λ e less. omega (arith, less)) b.entries of) bs are
-
--- and so are more batches after them
+-- and so are more batches after those of earlier lines
 pub earlier_more : (at : ℕ) (bs was more : List Batch) → bs ≡ was ++ more → All (IsOfEarlier at) was → All (IsOfEarlier (at + 1)) more → All (IsOfEarlier (at + 1)) bs
 earlier_more at bs was more is before own =
-    subst (λ (js : List Batch). All (IsOfEarlier (at + 1)) js) (sym is) (All-append (IsOfEarlier (at + 1)) was more (earlier_then at was before) own)
+    subst (λ (js : List Batch). All (IsOfEarlier (at + 1)) js) (sym is) (All-append (IsOfEarlier (at + 1)) was more (earlier_to at (at + 1) (omega arith) was before) own)
 
 -- without a batch in flight
 pub earlier_now : (at : ℕ) (bs : List Batch) (c : Option Batch) → c ≡ None → All (IsOfEarlier at) (bs ++ in_flight c) → All (IsOfEarlier at) bs
@@ -329,19 +253,6 @@ module _ {P C : Type 0} (plants : PlantGhosts P) (copies : CopyGhosts C) (x y : 
         (λ free. subst (λ (k : ℕ). IsQuiet plants copies y k) same_room aside.quiet) aside.quiet.unreserved (members_after n 1 (by.0 - 1) ms (omega arith) (omega (arith, some)) its_member is.members)
         (length-set ms (by.0 - 1) n) (held_within within) aside.quiet.begun (λ k later le small. untold k later (omega (arith, le)) small) (earlier_after (at + 1) own) (omega (arith, few))
 
-  -- THE LINE'S MEMBER was halted in it, and is stopped
-
-  module _ (n : Member) (id : n.id ≡ by) (down : is_stopped y.book by ≡ true) where
-    between_halted : (ms : List Member) (at : ℕ) → 1 ≤ by.0 → by.0 ≤ x.base.config.members → at ≤ steps_most → IsBetween plants copies x ms at → StandsIn y.batches y.placed y.book y.current
-        → AreSettled y.batches (plants.view y.plant).now → (is_left_held y.book ≡ false → IsQuiet plants copies y (page_count y.base.config)) → y.reserved ≡ None
-        → All (IsOfEarlier (at + 1)) (y.batches ++ in_flight y.current) → y.since ≡ x.since → Proceeds (plants.view x.plant) (plants.view y.plant)
-        → ((k : MemberId) (later : ℕ) → at < later → later ≤ steps_most → HasUntold plants copies y k later)
-        → IsBetween plants copies y (set ms (by.0 - 1) n) (at + 1)
-    between_halted ms at some within few is stands settled quiet unreserved own began goes untold =
-        let down_member : IsMemberAt plants copies y by.0 n = record { id = id; up = λ up. absurd (no true refl (sym down ∙ sym (ap (λ (k : MemberId). is_stopped y.book k) id) ∙ up)) } in
-        between_on plants copies x y base since goes ms (set ms (by.0 - 1) n) at (at + 1) is stands settled quiet unreserved (members_after n 1 (by.0 - 1) ms (omega arith) (omega (arith, some)) down_member is.members)
-        (length-set ms (by.0 - 1) n) (held_within within) (let le = is.begun in let on = goes.later in omega (arith, le, on, began)) (λ k later le small. untold k later (omega (arith, le)) small) own (omega (arith, few))
-
 -- A line whose member had the lock, and played a step or a reset: where the value stands after it, for every answer.
 
 -- of the journal's entries those of a batch in flight come last, and its place has none
@@ -353,13 +264,8 @@ earlier_left k bs placed b (Some c) stands are =
     let e = stands.0 in
     let here : All (IsOfEarlier k) (e.before ++ c ∷ []) = subst (λ (l : List Batch). All (IsOfEarlier k) l) (ap (with_last c) e.is ∙ with_last-append c e.before e.place) are in
     let none : IsOfEarlier k e.place = subst (λ (es : List Entry). All (λ (n : Entry). n.step < k) es) (sym e.free.empty) (All-nil (λ (n : Entry). n.step < k)) in
-    subst (λ (l : List Batch). All (IsOfEarlier k) (l ++ c ∷ [])) (sym e.is) (placed_within e.before e.place none here)
-  where
-    placed_within : (before : List Batch) (place : Batch) → IsOfEarlier k place → All (IsOfEarlier k) (before ++ c ∷ []) → All (IsOfEarlier k) ((before ++ place ∷ []) ++ c ∷ [])
-    placed_within [] place none here = All-cons (IsOfEarlier k) place (c ∷ []) none here
-    placed_within (a ∷ before) place none here =
-        All-cons (IsOfEarlier k) a ((before ++ place ∷ []) ++ c ∷ []) (here 0 a (omega arith))
-        (placed_within before place none (λ i d lt. here (suc i) d (omega (arith, lt))))
+    let placed : All (IsOfEarlier k) (e.before ++ e.place ∷ []) = All-append (IsOfEarlier k) e.before (e.place ∷ []) (all_front (IsOfEarlier k) e.before (c ∷ []) here) (All-cons (IsOfEarlier k) e.place [] none (All-nil (IsOfEarlier k))) in
+    subst (λ (l : List Batch). All (IsOfEarlier k) (l ++ c ∷ [])) (sym e.is) (All-append (IsOfEarlier k) (e.before ++ e.place ∷ []) (c ∷ []) placed (all_back (IsOfEarlier k) e.before (c ∷ []) here))
 
 -- WHO HOLDS THE LOCK after a line of a member that had it: that member, or nobody
 
@@ -367,75 +273,31 @@ module _ (by : MemberId) where
   abbrev IsHeldBy : Book → Type 0
   IsHeldBy b = (b.holder ≡ by) ⊎ (b.holder ≡ nobody)
 
-  held_if : (c : Bool) (b d : Book) → IsHeldBy b → IsHeldBy d → IsHeldBy (if c then b else d)
-  held_if true b d one two = one
-  held_if false b d one two = two
-
-  held_tried : (b : Book) (inner : Bool) → IsHeldBy b → IsHeldBy (after_try b by inner)
-  held_tried b inner held =
-      held_if (is_stopped b by || is_holder b by) b (if is_some (try_refusal b by inner) then ticked b inner else granted (ticked b inner) by) held
-      (held_if (is_some (try_refusal b by inner)) (ticked b inner) (granted (ticked b inner) by) held (inl refl))
-
-  held_freed : (b : Book) (inner : Bool) → IsHeldBy b → IsHeldBy (after_free b by inner)
-  held_freed b inner held =
-      held_if (is_holder b by) (if inner then with_holder b nobody else with_holder (noted b by) nobody) b
-      (held_if inner (with_holder b nobody) (with_holder (noted b by) nobody) (inr refl) (inr refl)) held
-
   held_calls : CallsKeep by IsHeldBy
-  held_calls = record {
-    tries = held_tried;
-    seizes = λ b of held. held_if (is_some (seize_refusal b of)) b (granted b by) held (inl refl);
-    frees = held_freed;
-    spends = λ b n held. held;
-  }
+  held_calls = calls_keep by IsHeldBy (λ b inner held. held) (λ b held. inl refl) (λ b held. inr refl) (λ b held. inr refl) (λ b n held. held)
 
   held_left : (cut : Option Cut) (play : Play) (count : ℕ) → IsHeldBy play.book → IsHeldBy (left_by by cut play count).book
   held_left cut play count held = left_keeps by IsHeldBy held_calls cut (λ k is_cut why b is. is) play count held
 
--- WHAT IS RESERVED, once it is given up
+-- WHAT IS RESERVED, once it is given up: where nothing is, and all stands, nothing changes
 
-batches_some : (placed : Bool) (c : Batch) (bs : List Batch) → batches_left placed (Some c) bs ≡ bs
-batches_some true c bs = refl
-batches_some false c bs = refl
+unreserved_same : {P C : Type 0} (y : Parts P C) (b : Book) (o : Option Batch) (placed : Bool) → StandsIn y.batches placed b o
+    → unreserved_in (record y { current = o; reserved = None; placed = placed }) ≡ record y { current = o; reserved = None; placed = placed }
+unreserved_same y b None true stands = absurd (no true refl stands)
+unreserved_same y b None false stands = refl
+unreserved_same y b (Some c) true stands = refl
+unreserved_same y b (Some c) false stands = refl
 
-module _ {P C : Type 0} (y : Parts P C) (unreserved : y.reserved ≡ None) where
-  abbrev with_current : Option Batch → Parts P C
-  with_current o = record y { batches = batches_left y.placed o y.batches; reserved = None; placed = placed_left y.placed o }
-
-  none_reserved : record y { reserved = None } ≡ y
-  none_reserved = ap (λ (r : Option (List Entry)). record y { reserved = r }) (sym unreserved)
-
-  with_none : y.placed ≡ false → with_current None ≡ y
-  with_none unplaced =
-      ap (λ (p : Bool). record y { batches = batches_left p None y.batches; reserved = None; placed = false }) unplaced
-      ∙ ap (λ (p : Bool). record y { reserved = None; placed = p }) (sym unplaced) ∙ none_reserved
-
-  same_left : (b : Book) (o : Option Batch) → y.current ≡ o → StandsIn y.batches y.placed b o → unreserved_in y ≡ y
-  same_left b None is stands = ap with_current is ∙ with_none stands
-  same_left b (Some c) is stands =
-      ap with_current is ∙ ap (λ (bs : List Batch). record y { batches = bs; reserved = None }) (batches_some y.placed c y.batches) ∙ none_reserved
-
-  -- between two lines nothing is
-  pub same_unreserved : (b : Book) → StandsIn y.batches y.placed b y.current → unreserved_in y ≡ y
-  same_unreserved b stands = same_left b y.current refl stands
+pub same_unreserved : {P C : Type 0} (y : Parts P C) → y.reserved ≡ None → (b : Book) → StandsIn y.batches y.placed b y.current → unreserved_in y ≡ y
+same_unreserved y unreserved b stands = subst (λ (r : Option (List Entry)). unreserved_in (record y { reserved = r }) ≡ record y { reserved = r }) (sym unreserved) (unreserved_same y b y.current y.placed stands)
 
 -- WHO HOLDS THE LOCK where a member was halted in its sitting: that member
 
 module _ (by : MemberId) where
-  up_freed : (b : Book) (inner : Bool) → IsMember b by → is_stopped b by ≡ false → is_stopped (after_free b by inner) by ≡ false
-  up_freed b inner inside up = by_tests (is_holder b by) inner where
-    by_tests : (h i : Bool) → is_stopped (if h then (if i then with_holder b nobody else with_holder (noted b by) nobody) else b) by ≡ false
-    by_tests false i = up
-    by_tests true true = up
-    by_tests true false =
-        let some = inside.0 in
-        let few = inside.1 in
-        ap (λ (s : Standing). s.stopped) (get_or-set_same b.members (by.0 - 1) (record (standing b by) { freed = Some b.tick }) (beginner 0) (omega (arith, some, few))) ∙ up
-
-  up_released : (r : Release) (b : Book) → IsMember b by → is_stopped b by ≡ false → is_stopped (released_by r b by) by ≡ false
-  up_released Keep b inside up = up
-  up_released Inner b inside up = up_freed b true inside up
-  up_released Outer b inside up = up_freed b false inside up
+  up_released : (r : Release) (b : Book) → is_stopped b by ≡ false → is_stopped (released_by r b by) by ≡ false
+  up_released Keep b up = up
+  up_released Inner b up = (same_calls by by b).frees b true refl ∙ up
+  up_released Outer b up = (same_calls by by b).frees b false refl ∙ up
 
   -- it may go on after each whole piece
   may_adds : (l : Left) (p : Piece) → MayHold l.book by → MayHold (adds by true l p).book by
@@ -444,13 +306,11 @@ module _ (by : MemberId) where
       let ess = p.sitting.batches in
       let seated = entered_seated b by may.seated in
       let acts = acts_entered b by may in
-      let spends = spent_since (entered b by) by seated (length (all_entries ess)) in
       record {
         some = may.some;
         few = may.few;
         seated = inside_since b (after_piece b by p) by (piece_since by b p may.seated) may.seated;
-        up = up_released p.sitting.release (spent (entered b by) by ess) (inside_since (entered b by) (spent (entered b by) by ess) by spends seated)
-            (up_spent (entered b by) by (length (all_entries ess)) may.some seated.1 (acts.up seated.0));
+        up = up_released p.sitting.release (spent (entered b by) by ess) (up_spent (entered b by) by (length (all_entries ess)) may.some seated.1 (acts.up seated.0));
         free = adds_keeps by (IsHeldBy by) (held_calls by) true l p may.free;
       }
 
@@ -485,19 +345,19 @@ module _ {P C : Type 0} {plants : PlantGhosts P} {steadies : SteadyGhosts C} {co
       → ((k : MemberId) (later : ℕ) → at < later → later ≤ steps_most → HasUntold plants copies left_part k later)
       → LeftBetween y (set ms (by.0 - 1) n) (at + 1)
   halted_between n ms at few is id quiet own untold =
-      let quiet_unreserved : (pages : ℕ) → IsQuiet plants copies left_part pages → IsQuiet plants copies (unreserved_in left_part) pages =
-      λ pages is. subst (λ (w : Parts P C). IsQuiet plants copies w pages) (sym (ap (λ (o : Option Batch). with_current left_part is.unreserved o) is.none ∙ with_none left_part is.unreserved is.unplaced)) is in
-      let left_held : y.book.holder ≡ by → is_left_held y.book ≡ true = λ mine. let somebody : (by : MemberId) → 1 ≤ by.0 → is_somebody by ≡ true = λ by some. grind (arith, nat_tests, some) in
-      ap (λ (m : MemberId). is_somebody m && is_stopped y.book m) mine ∙ and_from (is_somebody by) (is_stopped y.book by) (somebody by some) down in
-      let stands : StandsIn (unreserved_in left_part).batches (unreserved_in left_part).placed (unreserved_in left_part).book (unreserved_in left_part).current =
-      let holds_or_none : (y.book.holder ≡ by) ⊎ (y.current ≡ None) = ⊎_elim (λ mine. inl mine) (λ none. inr (away none).1) holder in stands_unreserved y by down holds_or_none in
-      between_halted plants copies x (unreserved_in left_part) base since by holder notes n id down ms at some
-      (let le = within.1 in let many = since.many in let booked = is.booked in omega (arith, le, many, booked)) few is stands (settled_unreserved y)
-      (λ free. subst (λ (Q : Queue). IsQuiet plants copies (unreserved_in left_part) (page_count Q.config)) (sym base)
-      (quiet_unreserved (page_count x.base.config) (quiet (λ mine. absurd (no true refl (sym (left_held mine) ∙ free))))))
-      refl
-      (earlier_left (at + 1) (unreserved_in left_part).batches (unreserved_in left_part).placed (unreserved_in left_part).book (unreserved_in left_part).current stands (subst (λ (bs : List Batch). All (IsOfEarlier (at + 1)) bs) (sym (journal_unreserved left_part)) own))
-      began goes untold
+      let z = unreserved_in left_part in
+      let somebody : is_somebody by ≡ true = grind (arith, nat_tests, some) in
+      let left_held : y.book.holder ≡ by → is_left_held y.book ≡ true = λ mine. ap (λ (m : MemberId). is_somebody m && is_stopped y.book m) mine ∙ and_from (is_somebody by) (is_stopped y.book by) somebody down in
+      let stands : StandsIn z.batches z.placed z.book z.current = stands_unreserved y by down (⊎_elim (λ mine. inl mine) (λ none. inr (away none).1) holder) in
+      let still : IsQuiet plants copies left_part (page_count x.base.config) → IsQuiet plants copies z (page_count y.base.config) =
+      λ calm. subst (λ (w : Parts P C). IsQuiet plants copies w (page_count y.base.config)) (sym (same_unreserved left_part calm.unreserved y.book (subst (λ (c : Option Batch). StandsIn left_part.batches left_part.placed y.book c) (sym calm.none) calm.unplaced)))
+      (subst (λ (Q : Queue). IsQuiet plants copies left_part (page_count Q.config)) (sym base) calm) in
+      let its : IsMemberAt plants copies z by.0 n = record { id = id; up = λ up. absurd (no true refl (sym down ∙ sym (ap (λ (k : MemberId). is_stopped y.book k) id) ∙ up)) } in
+      between_on plants copies x z base since goes ms (set ms (by.0 - 1) n) at (at + 1) is stands (settled_unreserved y) (λ free. still (quiet (λ mine. no (is_left_held y.book) (left_held mine) free))) refl
+      (members_after plants copies x z base since by holder notes n 1 (by.0 - 1) ms (omega arith) (omega (arith, some)) its is.members) (length-set ms (by.0 - 1) n)
+      (held_within plants copies x z base since by holder notes (let le = within.1 in let many = since.many in let booked = is.booked in omega (arith, le, many, booked)))
+      (let le = is.begun in let on = goes.later in omega (arith, le, on, began)) (λ k later le small. untold k later (omega (arith, le)) small)
+      (earlier_left (at + 1) z.batches z.placed z.book z.current stands (subst (λ (bs : List Batch). All (IsOfEarlier (at + 1)) bs) (sym (journal_unreserved left_part)) own)) (omega (arith, few))
 
 -- WHO HOLDS THE LOCK was halted, and gave no batch: from this book on it is stopped
 
@@ -590,17 +450,11 @@ module _ {P C : Type 0} {plants : PlantGhosts P} {steadies : SteadyGhosts C} {co
     -- ITS MEMBER WAS HALTED
 
     module _ (halted : r ≡ Err no_node.Halted) where
-      abbrev CutThere : Option Cut → Type 0
-      CutThere o = IsCutBy {T = Unit {0}} (Err no_node.Halted) pieces o
-
-      its_cut : (c : Cut) × (cut ≡ Some c) × CutThere (Some c)
-      its_cut = by_cut cut refl where
-        at : CutThere cut
-        at = subst (λ (k : Result (Unit {0}) NodeNo). IsCutBy k pieces cut) halted left.by_answer
-
-        by_cut : (o : Option Cut) → cut ≡ o → (c : Cut) × (cut ≡ Some c) × CutThere (Some c)
-        by_cut None is_so = absurd (subst CutThere is_so at)
-        by_cut (Some c) is_so = (c, is_so, subst CutThere is_so at)
+      its_cut : (c : Cut) × (cut ≡ Some c) × IsCutBy {T = Unit {0}} (Err no_node.Halted) pieces (Some c)
+      its_cut = some_cut cut (subst (λ (k : Result (Unit {0}) NodeNo). IsCutBy k pieces cut) halted left.by_answer) where
+        some_cut : (o : Option Cut) → IsCutBy {T = Unit {0}} (Err no_node.Halted) pieces o → (c : Cut) × (o ≡ Some c) × IsCutBy {T = Unit {0}} (Err no_node.Halted) pieces (Some c)
+        some_cut None at = absurd at
+        some_cut (Some c) at = (c, refl, at)
 
       its_down : is_stopped q.book h.by ≡ true
       its_down = ap (λ (b : Book). is_stopped b h.by) left.leaves.book ∙ play_stops h.by play count may.seated cut its_cut.0 its_cut.1 its_cut.2.cause

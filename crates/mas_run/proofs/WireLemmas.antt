@@ -1,37 +1,30 @@
 -- Bytes on lines to other nodes: what a line of a script gives and takes, from what its step does.
-use Rattle.mas_run.proofs.Names.{◌≡◌, ◌≢◌, ◌⊎◌, inl, inr, ℕ, zero, suc, ◌+◌, ◌*◌, Bool, true, false, List, [], ◌∷◌, ◌++◌, append-nil, drop, length, take, Option, Some, None, Result, Ok, Err, refl, sym, ◌∙◌, ap, subst, arith, ◌-◌, ◌≤◌, ◌<◌, ◌==◌, append_assoc, set, slice_get, drop-append_seam, MemberId, Config, Queue, is_member, run, Book, is_stopped, Ask, SameWires, View, taken_now, World, PlantGhosts, Parts, Finds, holder_then, sittings_most, all_entries, given_in, reply_to, Exchange, Found, Holder, Offer, State, Away, Fresh, Task, Line as Node, Work, Wait, waits_in, GivesOnly, Hears, HearsAtFirst, HearsIn, HearsStep, TakesNothing, line_served, IsElsewhere, NodeNo, wires_then, Admission, Denied, Plays, Refused, admitted, Piece, piece_at, pieces_from, unless_told, count_then, Sight, LineAt, is_of_member, Carries, HeardFirst, HeardIn, stream_since, waits_as, Completes, HasRead, AreReaders, reader_place, eqb-true, nat_tests, get_or-set_other, get_or-set_same, length-set, set-get_or, IsLine, same_member, wires_most, same_member_is, ReadsAnyPieces, seated, no, Comes, LineCame, NoMember, NotGranted, SaysNo, StillUp, comes, HasTaken}
+use Rattle.mas_run.proofs.Names.{⊎_elim, ◌≡◌, ◌≢◌, ◌⊎◌, inl, inr, ℕ, zero, suc, ◌+◌, ◌*◌, true, false, List, [], ◌∷◌, ◌++◌, append-nil, drop, length, take, Option, Some, None, Result, Ok, refl, sym, ◌∙◌, ap, subst, arith, ◌-◌, ◌≤◌, ◌<◌, append_assoc, set, slice_get, drop-append_seam, MemberId, Config, Queue, is_member, run, Book, is_stopped, Ask, SameWires, View, taken_now, World, PlantGhosts, Parts, Finds, holder_then, sittings_most, all_entries, given_in, reply_to, Exchange, Found, Holder, Offer, State, Away, Fresh, Task, Line as Node, Work, Wait, waits_in, GivesOnly, HearsAtFirst, HearsIn, HearsStep, TakesNothing, line_served, IsElsewhere, NodeNo, wires_then, Admission, Denied, Plays, Refused, Piece, piece_at, pieces_from, unless_told, count_then, Sight, LineAt, Carries, HeardFirst, HeardIn, stream_since, waits_as, Completes, HasRead, AreReaders, reader_place, get_or-set_other, get_or-set_same, length-set, set-get_or, IsLine, wires_most, ReadsAnyPieces, seated, Comes, LineCame}
 use Rattle.nje_frames.specs.declared.frames.Frame.{Frame}
 use Rattle.nje_frames.specs.Streams.{HasFed, frames_in, open_end}
 use Rattle.step_turns.specs.Serving.{offered, taken_most}
-use Rattle.step_turns.specs.declared.states.Aside.{Aside}
+use Rattle.std.proofs.lemmas.Bool.Decides.{eqb_tells}
 use Rattle.std.proofs.lemmas.Option.{get_or_from_slice_get, same_Some as some_same, slice_get-get_or}
 use Rattle.run_opening.proofs.ReaderLemmas.{Readers, place_within}
 use Rattle.member_resets.proofs.Wiring.{gives_still, gives_then, taken_wider, takes_none, takes_still, takes_then}
 use Rattle.mas_types.specs.declared.commands.Command.TheVariants as command
+use Rattle.script_lang.specs.declared.types.Ask.TheVariants as asks
 
 -- NOTHING GIVEN OR TAKEN
 
--- where it heard nothing either
+-- where it heard nothing either, if it serves a line
 pub carries_none : (since : ℕ) (l : LineAt) (a : Admission) (given : List ℕ) (old new : View) → given ≡ [] → SameWires old new
-    → HeardFirst since l.step.by old new l.given.sight.finds (waits_as l a) → Carries since l a given old new
+    → ((line : ℕ) → a ≡ Plays (Node line) → HeardFirst since l.step.by old new l.given.sight.finds (waits_as l a)) → Carries since l a given old new
 carries_none since l (Plays (Node line)) given old new none same heard =
-    record { gives = subst (λ (bytes : List ℕ). GivesOnly l.step.by (Some line) bytes old new) (sym none) (gives_still l.step.by (Some line) old new same); hears = heard }
+    record { gives = subst (λ (bytes : List ℕ). GivesOnly l.step.by (Some line) bytes old new) (sym none) (gives_still l.step.by (Some line) old new same); hears = heard line refl }
 carries_none since l (Refused sayer end) given old new none same heard = (none, same)
 carries_none since l (Denied why) given old new none same heard = (none, same)
 carries_none since l _ given old new none same heard = same
 
--- a line that isn't one of a member
-module _ (since : ℕ) (l : LineAt) (given : List ℕ) (old new : View) (none : given ≡ []) (same : SameWires old new) where
-  carries_mute : {config : Config} {b : Book} {by : MemberId} {what : Ask} {a : Admission} → Comes config b by what a → is_of_member what ≡ false → Carries since l a given old new
-  carries_mute (LineCame n got) mute = absurd (cc)
-  carries_mute (NoMember end named) mute = (none, same)
-  carries_mute (SaysNo end up named) mute = (none, same)
-  carries_mute (StillUp of up member) mute = (none, same)
-  carries_mute (NotGranted why up is) mute = (none, same)
-  carries_mute _ mute = same
-
-  pub mute_carries : (config : Config) (b : Book) (by : MemberId) (what : Ask) → is_of_member what ≡ false → Carries since l (admitted config b by what) given old new
-  mute_carries config b by what mute = carries_mute (comes config b by what) mute
+-- a line that asks for something else serves none
+pub serves_none : {config : Config} {b : Book} {by : MemberId} {what : Ask} {a : Admission} → Comes config b by what a → ((n : ℕ) → what ≢ asks.Line n) → (line : ℕ) → a ≢ Plays (Node line)
+serves_none (LineCame n got) other line same = absurd (other n refl)
+serves_none _ other line same = absurd (cc)
 
 -- a line that serves none
 pub carries_still : (since : ℕ) (l : LineAt) (a : Admission) (given : List ℕ) (old new : View) → ((line : ℕ) → a ≢ Plays (Node line)) → Carries since l a given old new → SameWires old new
@@ -43,14 +36,10 @@ carries_still since l _ given old new other c = c
 -- OTHER ACTS AFTER IT
 
 module _ (since : ℕ) (by : MemberId) (old mid new : View) (same : SameWires mid new) where
-  aside_later : (a : Aside) (found : Found) → HeardIn since by old mid (Away a) found → HeardIn since by old new (Away a) found
-  aside_later (Exchange line offer) found h =
+  in_later : (s : State) (found : Found) → HeardIn since by old mid s found → HeardIn since by old new s found
+  in_later (Away (Exchange line offer)) found h =
       let t = taken_wider by line offer found old old mid new (takes_none old) h.0 (takes_still mid new same) in
       (t.0, subst (λ (bytes : List ℕ). Completes (stream_since since old line by) bytes found.frames) (sym t.1) h.1)
-  aside_later _ found h = takes_then old mid new h (takes_still mid new same)
-
-  in_later : (s : State) (found : Found) → HeardIn since by old mid s found → HeardIn since by old new s found
-  in_later (Away a) found h = aside_later a found h
   in_later _ found h = takes_then old mid new h (takes_still mid new same)
 
   heard_later : (finds : Finds) (ws : List Wait) → HeardFirst since by old mid finds ws → HeardFirst since by old new finds ws
@@ -66,10 +55,6 @@ carries_later since l (Refused sayer end) given old mid new same c = (c.0, wires
 carries_later since l (Denied why) given old mid new same c = (c.0, wires_then old mid new c.1 same)
 carries_later since l _ given old mid new same c = wires_then old mid new c same
 
--- by what else is known of the bytes
-pub carries_as : (since : ℕ) (l : LineAt) (a : Admission) (given other : List ℕ) (old new : View) → given ≡ other → Carries since l a given old new → Carries since l a other old new
-carries_as since l a given other old new same c = subst (λ (bytes : List ℕ). Carries since l a bytes old new) same c
-
 -- WHAT A TASK HEARD, by a reader that has read the stream
 
 -- the same is open to a reader
@@ -80,85 +65,61 @@ module _ (since : ℕ) (by : MemberId) (old new : View) (was is : Option (List �
   -- the frames are those that the bytes complete in what was taken
   frames_completed : (line : ℕ) (bytes : List ℕ) (frames : List Frame) → HasRead ((old.world since).taken line by.0) (taken_now old line by.0) (Some was)
       → HasFed was is bytes [] frames ⊎ ((bytes ≡ []) × (frames ≡ []) × (is ≡ was)) → Completes (stream_since since old line by) bytes frames
-  frames_completed line bytes frames read heard = by_read heard where
-    before : List ℕ
-    before = (old.world since).taken line by.0
-
-    stream : stream_since since old line by ≡ read.stream
-    stream = let stream_is : (before taken stream : List ℕ) → taken ≡ before ++ stream → drop (length before) taken ≡ stream = λ before taken stream is. ap (λ (bytes : List ℕ). drop (length before) bytes) is ∙ drop-append_seam before stream in
-        stream_is before (taken_now old line by.0) read.stream read.since
-
-    rest : was ≡ Some read.rest
-    rest = some_same was (Some read.rest) read.is
-
-    completed : Completes read.stream bytes frames → Completes (stream_since since old line by) bytes frames
-    completed so = subst (λ (s : List ℕ). Completes s bytes frames) (sym stream) so
-
-    by_read : HasFed was is bytes [] frames ⊎ ((bytes ≡ []) × (frames ≡ []) × (is ≡ was)) → Completes (stream_since since old line by) bytes frames
-    by_read (inl reads) =
-        completed (read.goes_on bytes ∙ ap (λ (front : List ℕ). frames_in read.stream ++ frames_in (front ++ bytes)) (sym (same_rest was reads.rest read.rest reads.was rest))
-        ∙ ap (λ (fs : List Frame). frames_in read.stream ++ fs) (sym reads.gained))
-    by_read (inr none) = completed (
-        ap (λ (k : List ℕ). frames_in (read.stream ++ k)) none.0 ∙ ap frames_in (append-nil read.stream)
-        ∙ sym (append-nil (frames_in read.stream)) ∙ ap (λ (fs : List Frame). frames_in read.stream ++ fs) (sym none.1)
-        )
+  frames_completed line bytes frames read heard =
+      let before = (old.world since).taken line by.0 in
+      let stream : stream_since since old line by ≡ read.stream = ap (λ (taken : List ℕ). drop (length before) taken) read.since ∙ drop-append_seam before read.stream in
+      subst (λ (s : List ℕ). Completes s bytes frames) (sym stream)
+      (⊎_elim (λ reads. rw (reads.gained, same_rest was reads.rest read.rest reads.was (some_same was (Some read.rest) read.is)) (read.goes_on bytes)) (λ none. rw (none.0, none.1, append-nil, append-nil) refl) heard)
 
   abbrev Read : ℕ → Type 0
   Read line = HasRead ((old.world since).taken line by.0) (taken_now old line by.0) (Some was)
 
-  aside_heard : (a : Aside) (found : Found) → ((line : ℕ) (offer : Option Offer) → a ≡ Exchange line offer → Read line) → HearsIn by old new was is (Away a) found
-      → HeardIn since by old new (Away a) found
-  aside_heard (Exchange line offer) found read h = (h.0, frames_completed line h.0.bytes found.frames (read line offer refl) h.1.read)
-  aside_heard _ found read h = h
+  -- a step that waits first for the exchange on a line
+  module _ (line : ℕ) where
+    abbrev IsExchange : List Wait → Type 0
+    IsExchange ws = (w : Wait) (more : List Wait) → ws ≡ w ∷ more → (offer : Option Offer) × (w.state ≡ Away (Exchange line offer))
 
-  in_heard : (s : State) (found : Found) → ((line : ℕ) (offer : Option Offer) → s ≡ Away (Exchange line offer) → Read line) → HearsIn by old new was is s found → HeardIn since by old new s found
-  in_heard (Away a) found read h = aside_heard a found (λ line offer same. read line offer (ap (λ (b : Aside). Away b) same)) h
-  in_heard _ found read h = h
-
-  heard_by : (result : Result (Unit {0}) NodeNo) (finds : Finds) (ws : List Wait)
-      → ((w : Wait) (more : List Wait) → ws ≡ w ∷ more → (line : ℕ) (offer : Option Offer) → w.state ≡ Away (Exchange line offer) → Read line)
-      → HearsAtFirst by old new was is result finds ws → HeardFirst since by old new finds ws
-  heard_by (Ok done) finds [] read h = absurd h
-  heard_by (Err why) finds [] read h = tt
-  heard_by (Ok done) finds (w ∷ ws) read h = in_heard w.state (finds w.queue w.state) (read w ws refl) h
-  heard_by (Err why) finds (w ∷ ws) read h = in_heard w.state (finds w.queue w.state) (read w ws refl) h
+    heard_by : Read line → (result : Result (Unit {0}) NodeNo) (finds : Finds) (ws : List Wait) → IsExchange ws → HearsAtFirst by old new was is result finds ws → HeardFirst since by old new finds ws
+    heard_by read result finds [] first h = tt
+    heard_by read result finds (w ∷ ws) first h =
+        let on = first w ws refl in
+        let found = finds w.queue w.state in
+        let heard = subst (λ (s : State). HearsIn by old new was is s found) on.1 h in
+        subst (λ (s : State). HeardIn since by old new s found) (sym on.1) (heard.0, frames_completed line heard.0.bytes found.frames read heard.1.read)
 
 -- WHERE A STEP WAITS FIRST that serves a line: for the exchange on that line
 
-first_wait : (v w : Wait) (rest ws : List Wait) → v ∷ rest ≡ w ∷ ws → v.state ≡ w.state
-first_wait v w rest ws same = let is : v ≡ w = cc in ap (λ (k : Wait). k.state) is
-
 first_state : (more : ℕ) (sight : Sight) (count : ℕ) (Q : Queue) (h : Holder) (line k : ℕ) (w : Wait) (ws : List Wait)
     → waits_in (take k (pieces_from (suc more) sight count Q h (Fresh (Node line)))) Q ≡ w ∷ ws → (offer : Option Offer) × (w.state ≡ Away (Exchange line offer))
-first_state more sight count Q h line zero w ws same = let none_some : (w : Wait) (ws : List Wait) → [] ≡ w ∷ ws → ⊥ = λ w ws e. absurd (cc) in absurd (none_some w ws same)
+first_state more sight count Q h line zero w ws same = let none : [] ≡ w ∷ ws = same in absurd (cc)
 first_state more sight count Q h line (suc k) w ws same =
     let p = piece_at sight count Q h (Fresh (Node line)) in
     let es = all_entries p.sitting.batches in
     let rest = unless_told p.sitting.next (pieces_from more sight (count_then h.by es count + length p.printed) (run Q es) (holder_then Q h es) p.sitting.next) in
     let v : Wait = record { queue = run Q es; state = p.sitting.next } in
+    let so : v ∷ waits_in (take k rest) (run Q es) ≡ w ∷ ws = same in
+    let is : v ≡ w = cc in
     let c = command.Load line in
-    let o : Option Offer = offered (run Q (given_in Q h.by h.step (c ∷ []))) line (reply_to Q h.by c) in
-    let at : v.state ≡ Away (Exchange line o) = refl in
-    (o, sym (first_wait v w (waits_in (take k rest) (run Q es)) ws same) ∙ at)
+    (offered (run Q (given_in Q h.by h.step (c ∷ []))) line (reply_to Q h.by c), ap (λ (k : Wait). k.state) (sym is))
 
 -- A TASK: what its step gave and heard, by a reader that has read the stream of its line
 
-abbrev pub ReadsLine : {P C : Type 0} (plants : PlantGhosts P) (x : Parts P C) → MemberId → Task → Option (List ℕ) → Type 0
-ReadsLine plants x by task was = (line : ℕ) → task ≡ Node line
-    → HasRead (((plants.view x.plant).world x.since).taken line by.0) (taken_now (plants.view x.plant) line by.0) (Some was)
+-- what its member took of its line since the run's first moment, up to another value
+abbrev pub ReadsLine : {P C : Type 0} (plants : PlantGhosts P) (x z : Parts P C) → MemberId → Task → Option (List ℕ) → Type 0
+ReadsLine plants x z by (Node line) reader = HasRead (((plants.view x.plant).world x.since).taken line by.0) (taken_now (plants.view z.plant) line by.0) (Some reader)
+ReadsLine plants x z by _ reader = Unit {0}
 
 abbrev pub WaitsOnLine : Task → List Wait → Type 0
-WaitsOnLine task waits = (line : ℕ) → task ≡ Node line → (w : Wait) (more : List Wait) → waits ≡ w ∷ more → (offer : Option Offer) × (w.state ≡ Away (Exchange line offer))
+WaitsOnLine (Node line) waits = (w : Wait) (more : List Wait) → waits ≡ w ∷ more → (offer : Option Offer) × (w.state ≡ Away (Exchange line offer))
+WaitsOnLine _ waits = Unit {0}
 
 pub waits_on : (sight : Sight) (count : ℕ) (Q : Queue) (h : Holder) (task : Task) (ps : List Piece) (k : ℕ) → ps ≡ pieces_from (sittings_most (Fresh task)) sight count Q h (Fresh task)
     → WaitsOnLine task (waits_in (take k ps) Q)
-waits_on sight count Q h task ps k pieces line same w more is =
-    let first_from : (most more : ℕ) (sight : Sight) (count : ℕ) (Q : Queue) (h : Holder) (s : State) (line k : ℕ) (ps : List Piece) → most ≡ suc more → s ≡ Fresh (Node line) → ps ≡ pieces_from most sight count Q h s → (w : Wait) (ws : List Wait) → waits_in (take k ps) Q ≡ w ∷ ws → (offer : Option Offer) × (w.state ≡ Away (Exchange line offer)) =
-    λ most more sight count Q h s line k ps is state pieces w ws same. first_state more sight count Q h line k w ws
-    (subst (λ (qs : List Piece). waits_in (take k qs) Q ≡ w ∷ ws)
-    (pieces ∙ ap (λ (n : ℕ). pieces_from n sight count Q h s) is ∙ ap (λ (t : State). pieces_from (suc more) sight count Q h t) state) same) in
+waits_on sight count Q h (Node line) ps k pieces = λ w more is.
     let most : sittings_most (Fresh (Node line)) ≡ suc (2 * taken_most + 1) = omega arith in
-    first_from (sittings_most (Fresh task)) (2 * taken_most + 1) sight count Q h (Fresh task) line k ps (ap (λ (t : Task). sittings_most (Fresh t)) same ∙ most) (ap (λ (t : Task). Fresh t) same) pieces w more is
+    first_state (2 * taken_most + 1) sight count Q h line k w more
+    (subst (λ (qs : List Piece). waits_in (take k qs) Q ≡ w ∷ more) (pieces ∙ ap (λ (n : ℕ). pieces_from n sight count Q h (Fresh (Node line))) most) is)
+waits_on sight count Q h _ ps k pieces = tt
 
 -- nothing was taken, nor given on a line that is none
 same_wires : (by : MemberId) (given : List ℕ) (old new : View) → GivesOnly by None given old new → TakesNothing old new → SameWires old new
@@ -173,28 +134,23 @@ module _ {P C : Type 0} (plants : PlantGhosts P) (x : Parts P C) (l : LineAt) (g
   old = plants.view x.plant
 
   pub task_carries : (task : Task) → GivesOnly l.step.by (line_served (Fresh task)) given old new
-      → HearsStep l.step.by old new was is (Fresh task) result l.given.sight.finds waits → waits_as l (Plays task) ≡ waits → ReadsLine plants x l.step.by task was → WaitsOnLine task waits
+      → HearsStep l.step.by old new was is (Fresh task) result l.given.sight.finds waits → waits_as l (Plays task) ≡ waits → ReadsLine plants x x l.step.by task was → WaitsOnLine task waits
       → Carries x.since l (Plays task) given old new
   task_carries (Work n) gives hears same read first = same_wires l.step.by given old new gives hears
-  task_carries (Node line) gives hears same read first = let exchange_line : (line other : ℕ) (offer more : Option Offer) → Away (Exchange line offer) ≡ Away (Exchange other more) → line ≡ other = λ line other offer more same. cc in
-      record {
-        gives = gives;
-        hears = subst (λ (ws : List Wait). HeardFirst x.since l.step.by old new l.given.sight.finds ws) (sym same)
-            (heard_by x.since l.step.by old new was is result l.given.sight.finds waits
-            (λ w more so other offer at.
-            let on = first line refl w more so in
-            subst (λ (k : ℕ). Read x.since l.step.by old new was is k) (exchange_line line other on.0 offer (sym on.1 ∙ at)) (read line refl))
-            hears);
-      }
+  task_carries (Node line) gives hears same read first = record {
+    gives = gives;
+    hears = subst (λ (ws : List Wait). HeardFirst x.since l.step.by old new l.given.sight.finds ws) (sym same)
+        (heard_by x.since l.step.by old new was is line read result l.given.sight.finds waits first hears);
+  }
   task_carries _ gives hears same read first = same_wires l.step.by given old new gives hears
 
 -- ONE READER
 
--- the frames of two pieces of a stream
 -- it took these bytes more
 read_more : (before taken after : List ℕ) (was is : Option (List ℕ)) (bytes : List ℕ) (frames : List Frame) → ReadsAnyPieces → HasRead before taken (Some was) → after ≡ taken ++ bytes
     → HasFed was is bytes [] frames ⊎ ((bytes ≡ []) × (frames ≡ []) × (is ≡ was)) → HasRead before after (Some is)
-read_more before taken after was is bytes frames law h more (inl reads) = let two_pieces : ReadsAnyPieces → (s t : List ℕ) → frames_in (s ++ t) ≡ frames_in s ++ frames_in (open_end s ++ t) = λ law s t. ap (λ (u : List ℕ). frames_in (s ++ u)) (sym (append-nil t)) ∙ sym (law (s ∷ t ∷ []))
+read_more before taken after was is bytes frames law h more (inl reads) =
+    let two_pieces : (s t : List ℕ) → frames_in (s ++ t) ≡ frames_in s ++ frames_in (open_end s ++ t) = λ s t. ap (λ (u : List ℕ). frames_in (s ++ u)) (sym (append-nil t)) ∙ sym (law (s ∷ t ∷ []))
     ∙ ap (λ (f : List Frame). frames_in s ++ f) (append-nil (frames_in (open_end s ++ t))) in
     let rest : reads.rest ≡ h.rest = same_rest was reads.rest h.rest reads.was (some_same was (Some h.rest) h.is) in
     record {
@@ -202,32 +158,18 @@ read_more before taken after was is bytes frames law h more (inl reads) = let tw
       since = more ∙ ap (λ (k : List ℕ). k ++ bytes) h.since ∙ append_assoc before h.stream bytes;
       rest = open_end (h.rest ++ bytes);
       is = ap (λ (k : Option (List ℕ)). Some k) (reads.now_is ∙ ap (λ (k : List ℕ). Some (open_end (k ++ bytes))) rest);
-      goes_on = λ next.
-          ap frames_in (append_assoc h.stream bytes next) ∙ h.goes_on (bytes ++ next)
-          ∙ ap (λ (k : List ℕ). frames_in h.stream ++ frames_in k) (sym (append_assoc h.rest bytes next))
-          ∙ ap (λ (f : List Frame). frames_in h.stream ++ f) (two_pieces law (h.rest ++ bytes) next)
-          ∙ sym (append_assoc (frames_in h.stream) (frames_in (h.rest ++ bytes)) (frames_in (open_end (h.rest ++ bytes) ++ next)))
-          ∙ ap (λ (f : List Frame). f ++ frames_in (open_end (h.rest ++ bytes) ++ next)) (sym (h.goes_on bytes));
+      goes_on = λ next. rw (append_assoc h.stream bytes next, h.goes_on (bytes ++ next), h.goes_on bytes, ← append_assoc h.rest bytes next, two_pieces (h.rest ++ bytes) next, append_assoc) refl;
     }
-read_more before taken after was is bytes frames law h more (inr none) =
-    let same : after ≡ taken = more ∙ ap (λ (k : List ℕ). taken ++ k) none.0 ∙ append-nil taken in
-    subst (λ (k : List ℕ). HasRead before k (Some is)) (sym same) (subst (λ (k : Option (List ℕ)). HasRead before taken (Some k)) (sym none.2) h)
+read_more before taken after was is bytes frames law h more (inr none) = rw (more, none.0, append-nil, none.2) h
 
 -- what a step took that ended well
-module _ (by : MemberId) (old new : View) (was is : Option (List ℕ)) where
-  hears_first : (n : ℕ) (finds : Finds) (ws : List Wait) → HearsAtFirst by old new was is (Ok tt) finds ws
-      → ((w : Wait) (more : List Wait) → ws ≡ w ∷ more → (offer : Option Offer) × (w.state ≡ Away (Exchange n offer))) → (offer : Option Offer) × (found : Found) × (h : HasTaken by n offer found old new) × Hears n offer found was is h.bytes
-  hears_first n finds [] h first = absurd h
-  hears_first n finds (w ∷ ws) h first =
-      let on = first w ws refl in
-      let heard : HearsIn by old new was is (Away (Exchange n on.0)) (finds w.queue w.state) = subst (λ (s : State). HearsIn by old new was is s (finds w.queue w.state)) on.1 h in
-      (on.0, finds w.queue w.state, heard.0, heard.1)
-
-  pub read_after : (task : Task) (finds : Finds) (waits : List Wait) (before : List ℕ) (n : ℕ) → ReadsAnyPieces → HearsStep by old new was is (Fresh task) (Ok tt) finds waits → WaitsOnLine task waits
-      → task ≡ Node n → HasRead before (taken_now old n by.0) (Some was) → HasRead before (taken_now new n by.0) (Some is)
-  read_after task finds waits before n law hears first same read =
-      let h = hears_first n finds waits (subst (λ (t : Task). HearsStep by old new was is (Fresh t) (Ok tt) finds waits) same hears) (λ w more is_so. first n same w more is_so) in
-      read_more before (taken_now old n by.0) (taken_now new n by.0) was is h.2.bytes h.1.frames law read h.2.taken h.3.read
+pub read_after : {P C : Type 0} (plants : PlantGhosts P) (x z : Parts P C) (by : MemberId) (was is : Option (List ℕ)) (task : Task) (finds : Finds) (waits : List Wait) → ReadsAnyPieces
+    → HearsStep by (plants.view x.plant) (plants.view z.plant) was is (Fresh task) (Ok tt) finds waits → WaitsOnLine task waits → ReadsLine plants x x by task was → ReadsLine plants x z by task is
+read_after plants x z by was is (Node n) finds [] law hears first read = absurd hears
+read_after plants x z by was is (Node n) finds (w ∷ ws) law hears first read =
+    let heard = subst (λ (s : State). HearsIn by (plants.view x.plant) (plants.view z.plant) was is s (finds w.queue w.state)) (first w ws refl).1 hears in
+    read_more _ _ _ was is heard.0.bytes (finds w.queue w.state).frames law read heard.0.taken heard.1.read
+read_after plants x z by was is _ finds waits law hears first read = tt
 
 -- THE LIST OF THEM
 
@@ -236,6 +178,24 @@ set_still rs j was is here same =
     ap (λ (r : Option (List ℕ)). set rs j r) (same ∙ sym (get_or_from_slice_get rs j was None here)) ∙ set-get_or rs j None
 
 -- THEIR PLACES
+
+same_place : (m by : MemberId) (line n : ℕ) → 1 ≤ m.0 → 1 ≤ by.0 → IsLine line → IsLine n → reader_place m line ≡ reader_place by n → (m.0 ≡ by.0) × (line ≡ n)
+same_place m by line n some more inside within same =
+    let number : m.0 ≡ by.0 = omega (arith, some, more, inside.0, inside.1, within.0, within.1, same) in (number, omega (arith, number, inside.0, inside.1, within.0, within.1, same))
+
+own_or_else : (by m : MemberId) (n line : ℕ) → ((m ≡ by) × (line ≡ n)) ⊎ IsElsewhere (Some n) by line m.0
+own_or_else by m n line = ⊎_elim (λ mine. ⊎_elim (λ here. inl (ap (λ (k : ℕ). let q : MemberId = record { 0 = k } in q) mine.1, here.1)) (λ other. inr (inl (λ same. other.1 (some_same line n (sym same))))) (eqb_tells line n))
+    (λ other. inr (inr other.1)) (eqb_tells m.0 by.0)
+
+own_reader : (rs : Readers) (j : ℕ) (r : Option (List ℕ)) → j < length rs → slice_get (set rs j r) j ≡ Some r
+own_reader rs j r less =
+    let many : length (set rs j r) ≡ length rs = length-set rs j r in
+    slice_get-get_or (set rs j r) j None (omega (arith, less, many)) ∙ ap (λ (k : Option (List ℕ)). Some k) (get_or-set_same rs j r None less)
+
+other_reader : (rs : Readers) (j k : ℕ) (r : Option (List ℕ)) → k < length rs → k ≢ j → slice_get (set rs j r) k ≡ slice_get rs k
+other_reader rs j k r less other =
+    let many : length (set rs j r) ≡ length rs = length-set rs j r in
+    slice_get-get_or (set rs j r) k None (omega (arith, less, many)) ∙ ap (λ (q : Option (List ℕ)). Some q) (get_or-set_other rs j k r None other) ∙ sym (slice_get-get_or rs k None less)
 
 -- WHAT THEY HAVE READ, once a line of a script was played
 
@@ -285,43 +245,21 @@ module _ {P C : Type 0} (plants : PlantGhosts P) (x y : Parts P C) (base : y.bas
     abbrev ReadAt : MemberId → ℕ → Type 0
     ReadAt m line = HasRead (first y line m) (taken_now (v y) line m.0) (slice_get (set rs place is) (reader_place m line))
 
-    else_now : plants.tells → (m : MemberId) (line : ℕ) → is_member x.base.config m ≡ true → IsLine line → is_stopped y.book m ≡ false → IsElsewhere (Some n) by line m.0
-        → (m.0 ≡ by.0 → line ≡ n → ⊥) → ReadAt m line
-    else_now t m line member inside is_up elsewhere apart =
-        let other_place : (m : MemberId) (line : ℕ) → is_member x.base.config m ≡ true → IsLine line → (m.0 ≡ by.0 → line ≡ n → ⊥) → reader_place m line ≢ place =
-        λ m line member inside apart same. let same_line : (m line other : ℕ) → IsLine line → IsLine other → wires_most * (m - 1) + (line - 1) ≡ wires_most * (m - 1) + (other - 1) → line ≡ other = λ m line other inside within same. omega (arith, inside.0, inside.1, within.0, within.1, same) in
-        let same_number : (m k line other : ℕ) → 1 ≤ m → 1 ≤ k → IsLine line → IsLine other → wires_most * (m - 1) + (line - 1) ≡ wires_most * (k - 1) + (other - 1) → m ≡ k = λ m k line other some more inside within same. omega (arith, some, more, inside.0, inside.1, within.0, within.1, same) in
-        let seat = seated x.base.config x.book m booked member in
-        let mine = seated x.base.config x.book by booked its in
-        let number : m.0 ≡ by.0 = same_number m.0 by.0 line n seat.0 mine.0 inside its_line same in
-        apart number (same_line by.0 line n inside its_line (ap (λ (k : ℕ). wires_most * (k - 1) + (line - 1)) (sym number) ∙ same)) in
-        let get_set_other : (rs : Readers) (j k : ℕ) (r : Option (List ℕ)) → k < length rs → k ≢ j → slice_get (set rs j r) k ≡ slice_get rs k = λ rs j k r less other. let many : length (set rs j r) ≡ length rs = length-set rs j r in
-        slice_get-get_or (set rs j r) k None (omega (arith, less, many)) ∙ ap (λ (q : Option (List ℕ)). Some q) (get_or-set_other rs j k r None other)
-        ∙ sym (slice_get-get_or rs k None less) in
-        subst (λ (r : Option (Option (List ℕ))). HasRead (first y line m) (taken_now (v y) line m.0) r)
-        (sym (get_set_other rs place (reader_place m line) is (inside_all m line member inside) (other_place m line member inside apart)))
-        (moved t m line (slice_get rs (reader_place m line)) (else_taken t line m.0 elsewhere) (read.each t m line member inside (up t m is_up)))
-
     each_now : plants.tells → (m : MemberId) (line : ℕ) → is_member x.base.config m ≡ true → IsLine line → is_stopped y.book m ≡ false → ReadAt m line
-    each_now t m line member inside is_up = by_tests (same_member m by) (line == n) refl refl where
-      by_tests : (k j : Bool) → same_member m by ≡ k → (line == n) ≡ j → ReadAt m line
-      by_tests true true mine here =
-          let own_now : plants.tells → is_stopped y.book by ≡ false → ReadAt by n = λ t is_up. let get_set_own : (rs : Readers) (j : ℕ) (r : Option (List ℕ)) → j < length rs → slice_get (set rs j r) j ≡ Some r = λ rs j r less. let many : length (set rs j r) ≡ length rs = length-set rs j r in
-          slice_get-get_or (set rs j r) j None (omega (arith, less, many)) ∙ ap (λ (k : Option (List ℕ)). Some k) (get_or-set_same rs j r None less) in
-          subst (λ (r : Option (Option (List ℕ))). HasRead (first y n by) (taken_now (v y) n by.0) r) (sym (get_set_own rs place is (inside_all by n its its_line)))
-          (subst (λ (b : List ℕ). HasRead b (taken_now (v y) n by.0) (Some is)) (sym (first_same t n by)) (own t is_up)) in
-          let same : m ≡ by = same_member_is m by mine in
-          subst (λ (q : MemberId). ReadAt q line) (sym same)
-          (subst (λ (q : ℕ). ReadAt by q) (sym (eqb-true line n here)) (own_now t (subst (λ (q : MemberId). is_stopped y.book q ≡ false) same is_up)))
-      by_tests true false mine here = else_now t m line member inside is_up (inl some_apart) (λ number same. no true refl (sym (is_here same) ∙ here)) where
-        is_here : line ≡ n → (line == n) ≡ true
-        is_here e = grind (arith, nat_tests, e)
+    each_now t m line member inside is_up = ⊎_elim own_now else_now (own_or_else by m n line) where
+      own_now : (m ≡ by) × (line ≡ n) → ReadAt m line
+      own_now (mine, here) =
+          subst (λ (q : MemberId). ReadAt q line) (sym mine) (subst (λ (k : ℕ). ReadAt by k) (sym here)
+          (subst (λ (r : Option (Option (List ℕ))). HasRead (first y n by) (taken_now (v y) n by.0) r) (sym (own_reader rs place is (inside_all by n its its_line)))
+          (subst (λ (b : List ℕ). HasRead b (taken_now (v y) n by.0) (Some is)) (sym (first_same t n by)) (own t (subst (λ (q : MemberId). is_stopped y.book q ≡ false) mine is_up)))))
 
-        some_apart : Some n ≢ Some line
-        some_apart e = no true refl (sym (is_here (let same : line ≡ n = cc in same)) ∙ here)
-      by_tests false j mine here = else_now t m line member inside is_up (inr not_mine) (λ number same. not_mine number) where
-        not_mine : m.0 ≢ by.0
-        not_mine e = no true refl (sym (let is_so : same_member m by ≡ true = grind (arith, nat_tests, e) in is_so) ∙ mine)
+      else_now : IsElsewhere (Some n) by line m.0 → ReadAt m line
+      else_now elsewhere =
+          let seat = seated x.base.config x.book m booked member in
+          let mine = seated x.base.config x.book by booked its in
+          let apart : reader_place m line ≢ place = λ same. let so = same_place m by line n seat.0 mine.0 inside its_line same in ⊎_elim (λ other. other (ap (λ (k : ℕ). Some k) (sym so.1))) (λ other. other so.0) elsewhere in
+          subst (λ (r : Option (Option (List ℕ))). HasRead (first y line m) (taken_now (v y) line m.0) r) (sym (other_reader rs place (reader_place m line) is (inside_all m line member inside) apart))
+          (moved t m line (slice_get rs (reader_place m line)) (else_taken t line m.0 elsewhere) (read.each t m line member inside (up t m is_up)))
 
     pub readers_served : AreReaders plants y (set rs place is)
     readers_served = record {

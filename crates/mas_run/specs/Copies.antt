@@ -1,5 +1,5 @@
 -- The copies in a line of a script, and in lines one after another.
-use Rattle.mas_run.specs.Names.{Dev, Ckpt1, Ckpt2, Disk, PlantGhosts, View, Ghosts as CopyGhosts, SteadyGhosts, IsBothLost, Complex, Renewals, Parts, parts_of, is_open, NodeNo, Grows, IsLeft, WasLost, Proceeds}
+use Rattle.mas_run.specs.Names.{Dev, Disk, IsCkpt, of_device, pick, PlantGhosts, View, Ghosts as CopyGhosts, SteadyGhosts, IsBothLost, Complex, Renewals, Parts, parts_of, is_open, NodeNo, Grows, IsLeft, WasLost, Proceeds}
 use Rattle.std.specs.Prelude.{◌≡◌, ◌⊎◌, Bool, true, false, List, Result, Err}
 use Rattle.mas_complex.specs.declared.renewals.Renewal.{Renewal}
 use Rattle.member_node.specs.declared.member.NodeNo.TheVariants.{BothLost}
@@ -21,30 +21,33 @@ abbrev pub ends_both : {T : Type 0} → Result T NodeNo → Bool
 ends_both (Err BothLost) = true
 ends_both _ = false
 
--- Both copies count as lost where the answer says so. Else one counts as alive, unless none did before, or a line of the
--- script lost one.
+-- Both copies count as lost where the answer says so. Else one counts as alive, unless none did before, or a line of
+-- the script lost one.
 abbrev pub LeavesOne : Bool → Sides → Sides → Type 0
 LeavesOne true x y = IsBothLost y.first_alive y.second_alive
 LeavesOne false x y = IsLeft x.first_alive y.first_alive x.second_alive y.second_alive ⊎ HasLost x.view y.view
 
+-- the copy on a device counts as alive
+abbrev pub is_alive : Dev → Sides → Bool
+is_alive d x = pick d x.first_alive x.second_alive
+
 -- A copy is lost exactly where its device failed or was lost by a call. The device of one that counts as alive isn't
 -- lost, if it wasn't before where the copy counted as alive then: a copy that is replaced counts as alive again.
+pub record IsCopyKept (x y : Sides) (d : Dev) : Type 0 where
+  pub failed : is_alive d x ≡ true → is_alive d y ≡ false → WasLost d x.view y.view
+  pub there : is_alive d y ≡ true → (is_alive d x ≡ true → x.view.lost (Disk d) ≡ false) → y.view.lost (Disk d) ≡ false
+
 pub record AreDevicesKept (both : Bool) (x y : Sides) : Type 0 where
   pub goes : Proceeds x.view y.view
-  pub failed1 : x.first_alive ≡ true → y.first_alive ≡ false → WasLost Ckpt1 x.view y.view
-  pub failed2 : x.second_alive ≡ true → y.second_alive ≡ false → WasLost Ckpt2 x.view y.view
-  pub there1 : y.first_alive ≡ true → (x.first_alive ≡ true → x.view.lost (Disk Ckpt1) ≡ false)
-      → y.view.lost (Disk Ckpt1) ≡ false
-  pub there2 : y.second_alive ≡ true → (x.second_alive ≡ true → x.view.lost (Disk Ckpt2) ≡ false)
-      → y.view.lost (Disk Ckpt2) ≡ false
+  pub copies : (d : Dev) → IsCkpt d → IsCopyKept x y d
   pub grow : (d : Dev) → Grows (x.view.loses d) (y.view.loses d)
   pub left : LeavesOne both x y
 
 -- so are the devices of both, and one that counts as alive is good
 pub record AreSidesLeft (both : Bool) (x y : Sides) : Type 0 where
   pub devices : AreDevicesKept both x y
-  pub whole1 : StaysWhole x.first_alive x.renewals.first y.first_alive y.renewals.first
-  pub whole2 : StaysWhole x.second_alive x.renewals.second y.second_alive y.renewals.second
+  pub whole : (d : Dev) → IsCkpt d
+      → StaysWhole (is_alive d x) (of_device d x.renewals) (is_alive d y) (of_device d y.renewals)
 
 module _ {P C : Type 0} (plants : PlantGhosts P) where
   abbrev pub sides_of : Parts P C → Sides

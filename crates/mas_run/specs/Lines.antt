@@ -1,5 +1,5 @@
 -- A line of a script as it was played: what it gave, why it was cut, and what it did to the plant.
-use Rattle.mas_run.specs.Names.{Dev, Ckpt1, Ckpt2, Spool, MemberId, Batch, Ask, Console, Disk, ViewLine as Line, View, paper_now, Rose, next, SamePapers, NodeNo, VolumesStay, console_now, none_lost, Deck, Work, Line as Node, Cut, Ends, Stops, Writing, Scene, Admission, Plays, Replaces, TakesOver, Piece, is_up, IsRight, queue_met, AreBatched, AtCut, IsBroken, IsHaltBy, IsTight, whole_pieces, AreFoundIn, named_in, waits_in, AreVolumesKept, HasStopped, OnlyStops, Proceeds, StaysLost}
+use Rattle.mas_run.specs.Names.{Dev, Ckpt1, Ckpt2, Spool, MemberId, Batch, Ask, Console, Disk, ViewLine as Line, View, paper_now, Rose, next, SamePapers, NodeNo, VolumesStay, console_now, none_lost, Deck, Work, Line as Node, Cut, Ends, Stops, Writing, Scene, Admission, Plays, Replaces, TakesOver, Piece, Played, is_up, IsRight, queue_met, AreBatched, AtCut, IsBroken, IsHaltBy, IsTight, whole_pieces, AreFoundIn, named_in, waits_in, AreVolumesKept, HasStopped, OnlyStops, Proceeds, StaysLost}
 use Rattle.std.specs.Prelude.{◌≡◌, ◌≢◌, ◌⊎◌, ℕ, ◌+◌, ◌<◌, ◌==◌, ◌&&◌, Bool, true, false, if◌then◌else◌, List, [], ◌++◌, length, map, take, Option, Some, None, Result, Ok, Err}
 use Rattle.mas_types.specs.declared.journals.Fate.{Fate}
 use Rattle.script_lang.specs.declared.types.Ask.TheVariants as ask
@@ -172,9 +172,25 @@ abbrev pub arms_by : Scene → MemberId → Ask → Bool
 arms_by S by (ask.StopIn what n) = is_up S by
 arms_by S by _ = false
 
-abbrev pub arms_then : LineAt → ℕ → ℕ → ℕ
-arms_then l m arms =
-    if arms_by l.scene l.step.by l.step.what && (l.step.by.0 == m) then next arms else arms
+-- AN ACCOUNT of a line: what it comes to, where it was cut, the volumes that it names, and whether it arms a stop
+pub record Account : Type 0 where
+  pub line : LineAt
+  pub played : Played
+  pub cut : Option Cut
+  pub named : ℕ → Bool
+  pub arms : Bool
+
+abbrev pub account_at : LineAt → Account
+account_at l = record {
+  line = l;
+  played = played_at l;
+  cut = cut_of l;
+  named = named_by l;
+  arms = arms_by l.scene l.step.by l.step.what;
+}
+
+abbrev pub arms_then : Account → ℕ → ℕ → ℕ
+arms_then w m arms = if w.arms && (w.line.step.by.0 == m) then next arms else arms
 
 -- WHAT STAYS
 
@@ -199,30 +215,30 @@ abbrev pub LeavesVolumes : LineAt → Type 0
 LeavesVolumes l = AskLeaves (admitted_at l) l.step.what
 
 -- the lines that the member's printer got, and no others
-abbrev pub printed_at : LineAt → ℕ → List Line
-printed_at l m = if l.step.by.0 == m then (played_at l).outcome.printed else []
+abbrev pub printed_at : Account → ℕ → List Line
+printed_at w m = if w.line.step.by.0 == m then w.played.outcome.printed else []
 
 -- A LINE THAT WAS PLAYED, on a plant that showed `old` before and `new` after it, with these batches of its own and
 -- this answer.
-pub record IsPassed (told : Type 0) (l : LineAt) (own : List Batch) (old new : View) (answer : Result (Unit {0}) NodeNo)
+pub record IsPassed (told : Type 0) (w : Account) (own : List Batch) (old new : View) (answer : Result (Unit {0}) NodeNo)
     : Type 0 where
   pub goes : Proceeds old new
-  pub given : IsGiven told l old new
-  pub honest : told → IfOfMember l.step.what (IsHonest l old new)
-  pub stay : told → VolumesStay (named_by l) old new
-  pub cut : CutsAs answer l.step.by (cut_of l) old new
-  pub within : IsWithin (cut_of l) (pieces_at l)
+  pub given : IsGiven told w.line old new
+  pub honest : told → IfOfMember w.line.step.what (IsHonestAs w.line (admitted_at w.line) w.cut old new)
+  pub stay : told → VolumesStay w.named old new
+  pub cut : CutsAs answer w.line.step.by w.cut old new
+  pub within : IsWithin w.cut (pieces_at w.line)
   pub why : NodeNo
-  pub is_why : IsWhy answer l.step.by old new why
-  pub tight : IfIdle (is_work (admitted_at l)) (AtCut (IsTight why) (cut_of l) (pieces_at l))
-  pub broke : told → AtCut (IsBroken why) (cut_of l) (pieces_at l)
-  pub spares : OnlyStops l.step.by old new
+  pub is_why : IsWhy answer w.line.step.by old new why
+  pub tight : IfIdle (is_work (admitted_at w.line)) (AtCut (IsTight why) w.cut (pieces_at w.line))
+  pub broke : told → AtCut (IsBroken why) w.cut (pieces_at w.line)
+  pub spares : OnlyStops w.line.step.by old new
   pub failed : answer ≡ Err no_node.ConsoleFault → Rose (old.faults Console) (new.faults Console)
   -- its batches are in the journal, its lines on the console and on its member's printer, and no others
-  pub batches : AreBatched l.step.by old.now new.now (played_at l).outcome.batches own
-  pub console : told → console_now new ≡ console_now old ++ map (λ s. s.line) (played_at l).outcome.said
-  pub paper : told → (m : ℕ) → paper_now new m ≡ paper_now old m ++ printed_at l m
-  pub dry : told → PrintsNone (admitted_at l) → SamePapers old new
-  pub stays : (d : Dev) → is_replaced d (admitted_at l) ≡ false → StaysLost d old new
-  pub arms : (m : ℕ) → new.arms m ≡ arms_then l m (old.arms m)
-  pub volumes : told → LeavesVolumes l → AreVolumesKept old new
+  pub batches : AreBatched w.line.step.by old.now new.now w.played.outcome.batches own
+  pub console : told → console_now new ≡ console_now old ++ map (λ s. s.line) w.played.outcome.said
+  pub paper : told → (m : ℕ) → paper_now new m ≡ paper_now old m ++ printed_at w m
+  pub dry : told → PrintsNone (admitted_at w.line) → SamePapers old new
+  pub stays : (d : Dev) → is_replaced d (admitted_at w.line) ≡ false → StaysLost d old new
+  pub arms : (m : ℕ) → new.arms m ≡ arms_then w m (old.arms m)
+  pub volumes : told → LeavesVolumes w.line → AreVolumesKept old new

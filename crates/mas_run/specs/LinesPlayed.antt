@@ -1,5 +1,5 @@
 -- What a line leaves of the shared value and its members, and what lines do one after another.
-use Rattle.mas_run.specs.Names.{MemberId, Batch, Ask, Step, View, PlantGhosts, Ghosts as CopyGhosts, SteadyGhosts, Complex, Parts, parts_of, NodeNo, journal_of, Scene, Given, line_with, IsShown}
+use Rattle.mas_run.specs.Names.{MemberId, Ask, Step, View, PlantGhosts, Ghosts as CopyGhosts, SteadyGhosts, Complex, Parts, parts_of, NodeNo, journal_of, Scene, Given, line_with, IsShown}
 use Rattle.std.specs.Prelude.{ℕ, Bool, true, false, List, Result, OnOk}
 use Rattle.script_lang.specs.declared.types.Ask.TheVariants as ask
 use Rattle.mas_run.specs.Passed.{Here, IsNext, Passed, There}
@@ -18,14 +18,14 @@ module _ {P C : Type 0} (plants : PlantGhosts P) (copies : CopyGhosts C) where
   abbrev v : Parts P C → View
   v x = plants.view x.plant
 
-  -- where a run stands, whose own journal has these batches after those of its opening
-  abbrev pub here_at : ℕ → Scene → List Batch → Parts P C → Here
-  here_at at S batches x = record {
+  -- where a run stands
+  abbrev pub here_at : ℕ → Scene → Parts P C → Here
+  here_at at S x = record {
     reads = copies.reads;
     since = x.since;
     number = at;
     scene = S;
-    batches = batches;
+    batches = journal_of x;
     renewals = x.renewals;
     view = v x;
   }
@@ -38,7 +38,7 @@ module _ {P C : Type 0} (plants : PlantGhosts P) (copies : CopyGhosts C) where
   pub record HasPlayedLine (told : Type 0) (S : Scene) (at : ℕ) (step : Step) (x y : Parts P C)
       (result : Result (Unit {0}) NodeNo) : Type 0 where
     pub given : Given
-    pub next : IsNext told (here_at at S (journal_of x) x) given step (there_at y result)
+    pub next : IsNext told (here_at at S x) given step (there_at y result)
     pub shows : OnOk result (IsShown plants copies told (line_with S at given step).next y)
 
 -- OVER THE SHARED VALUE. What is told of content is said where this is told: of a plant that tells, and of one that
@@ -55,8 +55,7 @@ module _ {P C : Type 0} {plants : PlantGhosts P} {steadies : SteadyGhosts C} {co
   abbrev pub PassesLines : Type 0 → ℕ → List Step → ℕ → Complex P C plants steadies copies
       → Complex P C plants steadies copies → Result (Unit {0}) NodeNo → Type 0
   PassesLines told at steps many x y result = (S : Scene) → IsShown plants copies told S (parts_of x)
-      → Passed told (here_at plants copies at S (journal_of (parts_of x)) (parts_of x)) steps many
-      (there_at plants copies (parts_of y) result)
+      → Passed told (here_at plants copies at S (parts_of x)) steps many (there_at plants copies (parts_of y) result)
 
   -- So many of these lines were played.
   pub record PlayedLines (tells : Type 0) (at : ℕ) (steps : List Step) (x y : Complex P C plants steadies copies)

@@ -3,13 +3,13 @@ pub use Rattle.ckpt_copy.specs.declared.copying.Copying.{Ghosts}
 pub use Rattle.ckpt_form.specs.Form.{form_needs, form_reads}
 pub use Rattle.ckpt_form.specs.declared.steady.Steady.{Ghosts as SteadyGhosts}
 pub use Rattle.ckpt_tables.specs.Shape.{page_count}
-pub use Rattle.duplex_pair.specs.Halves.{IsBothLost, SomeAlive}
+pub use Rattle.duplex_pair.specs.Halves.{IsBothLost, IsCkpt, SomeAlive, pick}
 pub use Rattle.lock_cycle.specs.Books.{Book, IsMember, is_stopped, left_of}
 pub use Rattle.mas_complex.specs.Journals.{AreSettled, kept_all}
 pub use Rattle.mas_complex.specs.Meaning.{run}
 pub use Rattle.mas_complex.specs.Paper.{SamePapers, counts_of}
 pub use Rattle.mas_complex.specs.Parts.{Parts, parts_of}
-pub use Rattle.mas_complex.specs.Renewals.{begun_on, ended_on, is_open, no_renewals}
+pub use Rattle.mas_complex.specs.Renewals.{begun_on, ended_on, is_open, no_renewals, of_device}
 pub use Rattle.mas_complex.specs.declared.complex.Complex.{Complex}
 pub use Rattle.mas_complex.specs.declared.renewals.Renewals.{Renewals}
 pub use Rattle.mas_types.specs.Limits.{members_most, steps_most, wires_most}

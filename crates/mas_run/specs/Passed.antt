@@ -3,7 +3,7 @@ use Rattle.mas_run.specs.Names.{Dev, Batch, Step, next, View, NodeNo, Armed, Sce
 use Rattle.std.specs.Prelude.{◌≡◌, ℕ, suc, ◌+◌, ◌≤◌, ◌==◌, Bool, true, false, if◌then◌else◌, List, [], ◌∷◌, ◌++◌, drop, Option, Result, Ok}
 use Rattle.mas_run.specs.LinesAt.{LineAt, admitted_at, played_at}
 use Rattle.mas_run.specs.Renewing.{RenewsAs}
-use Rattle.mas_run.specs.Lines.{IsPassed, LeavesVolumes, LosesAs, is_takeover, loses_then, taking}
+use Rattle.mas_run.specs.Lines.{IsPassed, LeavesVolumes, LosesAs, Account, is_takeover, loses_then, taking, account_at}
 use Rattle.mas_run.specs.Wires.{Carries}
 
 -- what a plant showed, what the journal of the run had, when copies were replaced, and the scene, at a line of this
@@ -29,22 +29,24 @@ line_of h g step = record { scene = h.scene; number = h.number; step = step; giv
 
 -- A line: with its own batches it was played up to what the plant shows now. What it found of a batch in flight is that
 -- batch's fate since a moment of the line.
-pub record IsNext (told : Type 0) (h : Here) (g : Given) (step : Step) (there : There) : Type 0 where
+pub record IsNextBy (told : Type 0) (h : Here) (w : Account) (there : There) : Type 0 where
   pub own : List Batch
-  pub passed : IsPassed told (line_of h g step) own h.view there.view there.answer
+  pub passed : IsPassed told w own h.view there.view there.answer
   pub at : ℕ
   pub moment : (h.view.now ≤ at) × (at ≤ there.view.now)
-  pub batches : there.batches ≡ settle (played_at (line_of h g step)).outcome.found at h.batches ++ own
+  pub batches : there.batches ≡ settle w.played.outcome.found at h.batches ++ own
   -- what was lost by a call in it
   pub loses : told → LosesAs h.reads
-      (taking (is_takeover (admitted_at (line_of h g step))) (fate_found (admitted_at (line_of h g step)) g.sight))
-      (played_at (line_of h g step)).outcome.loses h.view there.view
+      (taking (is_takeover (admitted_at w.line)) (fate_found (admitted_at w.line) w.line.given.sight))
+      w.played.outcome.loses h.view there.view
   -- the copies that it replaced
-  pub renews : RenewsAs (admitted_at (line_of h g step)) g.sight.cut g.sight.renewed
+  pub renews : RenewsAs (admitted_at w.line) w.line.given.sight.cut w.line.given.sight.renewed
       (record { renewals = h.renewals; view = h.view }) (record { renewals = there.renewals; view = there.view })
   -- the bytes that it gave and took on a line to another node
-  pub wires : told → Carries h.since (line_of h g step) (admitted_at (line_of h g step))
-      (played_at (line_of h g step)).outcome.given h.view there.view
+  pub wires : told → Carries h.since w.line (admitted_at w.line) w.played.outcome.given h.view there.view
+
+abbrev pub IsNext : Type 0 → Here → Given → Step → There → Type 0
+IsNext told h g step there = IsNextBy told h (account_at (line_of h g step)) there
 
 abbrev pub here_after : Here → Given → Step → There → Here
 here_after h g step there = record {
@@ -89,18 +91,18 @@ abbrev pub arms_after : ℕ → List Armed → ℕ → ℕ
 arms_after m [] arms = arms
 arms_after m (a ∷ more) arms = arms_after m more (if a.member.0 == m then next arms else arms)
 
--- each line that was played leaves the volumes as they are
-abbrev pub LeaveVolumes : Scene → ℕ → List Given → List Step → Type 0
-LeaveVolumes S at gs [] = Unit {0}
-LeaveVolumes S at gs (step ∷ steps) =
+-- each line that was played is so
+abbrev pub AreEach : (LineAt → Type 0) → Scene → ℕ → List Given → List Step → Type 0
+AreEach P S at gs [] = Unit {0}
+AreEach P S at gs (step ∷ steps) =
     let g = given_first gs in
-    LeavesVolumes (record { scene = S; number = at; step = step; given = g })
-    × RightIf (line_with S at g step).goes_on (LeaveVolumes (line_with S at g step).next (at + 1) (drop 1 gs) steps)
+    P (record { scene = S; number = at; step = step; given = g })
+    × RightIf (line_with S at g step).goes_on (AreEach P (line_with S at g step).next (at + 1) (drop 1 gs) steps)
 
--- no line that was played takes the lock over
+-- each leaves the volumes as they are
+abbrev pub LeaveVolumes : Scene → ℕ → List Given → List Step → Type 0
+LeaveVolumes S at gs steps = AreEach LeavesVolumes S at gs steps
+
+-- none takes the lock over
 abbrev pub TakeNone : Scene → ℕ → List Given → List Step → Type 0
-TakeNone S at gs [] = Unit {0}
-TakeNone S at gs (step ∷ steps) =
-    let g = given_first gs in
-    (is_takeover (admitted_at (record { scene = S; number = at; step = step; given = g })) ≡ false)
-    × RightIf (line_with S at g step).goes_on (TakeNone (line_with S at g step).next (at + 1) (drop 1 gs) steps)
+TakeNone S at gs steps = AreEach (λ (l : LineAt). is_takeover (admitted_at l) ≡ false) S at gs steps

@@ -1,8 +1,9 @@
 -- A run in which a member was not stopped in an act.
-use Rattle.mas_run.specs.Names.{Step, Cut, Ends, Scene, scene_of, Given, RightIf, given_first, line_with}
-use Rattle.std.specs.Prelude.{◌≡◌, ◌⊎◌, ℕ, ◌+◌, List, [], ◌∷◌, drop, Some, None}
+use Rattle.mas_run.specs.Names.{Step, Cut, Ends, Scene, scene_of, Given}
+use Rattle.std.specs.Prelude.{◌≡◌, ◌⊎◌, ℕ, List, Some, None}
 use Rattle.mas_run.specs.LinesAt.{LineAt}
 use Rattle.mas_run.specs.Lines.{cut_of}
+use Rattle.mas_run.specs.Passed.{AreEach}
 use Rattle.mas_run.specs.Runs.{LinesBegun, LinesEnded, HavePassed}
 
 -- a line that wasn't cut, or in which the run ended
@@ -11,11 +12,7 @@ IsWhole l = (cut_of l ≡ None) ⊎ ((cut : Cut) × (cut_of l ≡ Some cut) × (
 
 -- each line of this member was whole
 abbrev pub AreWhole : ℕ → Scene → ℕ → List Given → List Step → Type 0
-AreWhole m S at gs [] = Unit {0}
-AreWhole m S at gs (step ∷ steps) =
-    let g = given_first gs in
-    (step.by.0 ≡ m → IsWhole (record { scene = S; number = at; step = step; given = g }))
-    × RightIf (line_with S at g step).goes_on (AreWhole m (line_with S at g step).next (at + 1) (drop 1 gs) steps)
+AreWhole m S at gs steps = AreEach (λ (l : LineAt). l.step.by.0 ≡ m → IsWhole l) S at gs steps
 
 -- Where a member's count of stops is 0 at the end: no line of it was cut but the one in which the run ended. So with
 -- Done none was.

@@ -1,7 +1,7 @@
 //! The lines of a script that are played on a run that is open.
-ghost use Rattle.mas_run.specs.Names.{steps_most, Ckpt1, Ckpt2, Dev, Disk, SomeAlive, IsPlayed, no_renewals, kept_all, AreSettled, run as run_of, Grows, IsCausedFrom, is_of_play, scene_of, Proceeds, BetweenLines, Shows, HaveRead};
-ghost use Rattle.std.specs.Prelude.{◌≡◌, ◌≤◌, true, false, length, All};
-ghost use Rattle.mas_run.specs.Runs.{IsPlay};
+ghost use Rattle.mas_run.specs.Names.{steps_most, Dev, IsPlayed, Grows, IsCausedFrom, is_of_play, Proceeds, HaveRead};
+ghost use Rattle.std.specs.Prelude.{◌≡◌, ◌≤◌, true, length, All};
+ghost use Rattle.mas_run.specs.Runs.{IsOpenForLines, IsPlay, run_result};
 
 use crate::running::Running;
 use ckpt_form::CopyForm;
@@ -19,15 +19,8 @@ pub(crate) fn play_asked<P: Plant + Drop>(
 ) -> Ended<P>
     requires few { length lines.now ≤ steps_most }
     requires played { All IsPlayed lines.now }
-    requires between { BetweenLines run.complex run.members 1 }
+    requires open { IsOpenForLines run.complex run.members }
     requires readers { HaveRead run.complex run.readers }
-    requires shows { Shows (Unit {0}) (scene_of (run_of run.complex.base (kept_all run.complex.journal.batches)))
-        run.complex }
-    requires settled { AreSettled run.complex.journal.batches (P.view run.complex.plant).now }
-    requires unrenewed { run.complex.renewals ≡ no_renewals }
-    requires some { SomeAlive run.complex.pair.first.alive run.complex.pair.second.alive }
-    requires there1 { run.complex.pair.first.alive ≡ true → (P.view run.complex.plant).lost (Disk Ckpt1) ≡ false }
-    requires there2 { run.complex.pair.second.alive ≡ true → (P.view run.complex.plant).lost (Disk Ckpt2) ≡ false }
     ensures base { result.base ≡ run.complex.base }
     ensures since { result.since ≡ run.complex.since }
     ensures kind { is_of_play result.status ≡ true }
@@ -35,8 +28,8 @@ pub(crate) fn play_asked<P: Plant + Drop>(
     ensures grow { (d : Dev) → Grows ((P.view run.complex.plant).loses d) ((P.view result.plant).loses d) }
     ensures cause { IsCausedFrom run.complex.pair.first.alive run.complex.pair.second.alive result.status
         (P.view run.complex.plant) (P.view result.plant) }
-    ensures play { IsPlay P.tells lines.now result.status result.base run.complex.journal.batches result.journal
-        result.since (P.view run.complex.plant) (P.view result.plant) }
+    ensures play { IsPlay P.tells lines.now run.complex.journal.batches (P.view run.complex.plant)
+        (run_result result.status result.base result.journal result.since (P.view result.plant)) }
 {
     let OpenRun {
         complex,

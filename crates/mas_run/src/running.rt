@@ -1,6 +1,6 @@
 //! A run that has begun: its shared value and its members, and the lines of a script that are played on them.
-ghost use Rattle.mas_run.specs.Names.{members_most, steps_most, Lose, Stop, StopIn, IsMember, left_of, granted_by, IsPlayed};
-ghost use Rattle.std.specs.Prelude.{◌≡◌, ◌≤◌, ◌<◌, length, true, Ok, OnOk, All};
+ghost use Rattle.mas_run.specs.Names.{steps_most, Lose, Stop, StopIn, IsMember, left_of, granted_by, IsPlayed};
+ghost use Rattle.std.specs.Prelude.{◌≡◌, ◌≤◌, ◌-◌, length, true, Ok, OnOk, All};
 ghost use Rattle.mas_run.specs.Wires.{task_place};
 
 use mas_complex::{Complex, Steady};
@@ -62,14 +62,14 @@ fn holder_of<P: Plant + Drop, C: Steady + Drop>(
     }
 }
 
-// The place of the reader of the line that a task serves, among those of all members.
-fn reader_of(at: usize, task: &Task) -> usize
-    requires { at < members_most }
-    ensures { result ≡ task_place at task.now }
+// The place of the reader of the line that a task of a member serves, among those of all members.
+fn reader_of(by: MemberId, task: &Task) -> usize
+    ensures { result ≡ task_place (by.0 - 1) task.now }
 {
+    let first = LINES * (by.0 as usize).saturating_sub(1);
     match task {
-        Task::Line(line) => LINES * at + (*line as usize).saturating_sub(1),
-        _ => LINES * at,
+        Task::Line(line) => first + (*line as usize).saturating_sub(1),
+        _ => first,
     }
 }
 
@@ -117,7 +117,7 @@ impl<P: Plant + Drop, C: Steady + Drop> Running<P, C> {
             Admission::Plays(task) => {
                 let holder = holder_of(complex, by, step, grant);
                 law_of_streams();
-                let place = reader_of(at, &task);
+                let place = reader_of(by, &task);
                 let reader = self.readers.item_mut(place);
                 play_task(
                     self.members.item_mut(at),
@@ -168,9 +168,7 @@ impl<P: Plant + Drop, C: Steady + Drop> Running<P, C> {
                 self.complex.give_up_reserved();
                 say_stopped(alloc, &mut self.complex, by, step)
             }
-            Err(NodeNo::BothLost) => Err(NodeNo::BothLost),
-            Err(NodeNo::ConsoleFault) => Err(NodeNo::ConsoleFault),
-            Err(NodeNo::NoMemory) => Err(NodeNo::NoMemory),
+            Err(why) => Err(why),
         }
     }
 

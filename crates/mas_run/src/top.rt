@@ -2,7 +2,7 @@
 ghost use Rattle.mas_run.specs.Names.{CopyState, Dev, Ckpt1, Ckpt2, first_some, Script as ScriptLem, IsScript, IsPlayed, View, Rose, form_needs, page_count, OnlyLookedAtAll, AreRoomy, console_now, IsNotStarted, refused_sizes, Answers, IsPlayedOut, IsTakenFrom, IsTooSmall, is_of_script, has_begun, AreSidesKept, Begins, IsUnbegun, IsCaused, LeavesLost, is_of_text, is_unplayed, AreVolumesKept, Proceeds};
 ghost use Rattle.std.specs.Prelude.{◌≡◌, ◌≢◌, ◌⊎◌, ℕ, ◌≤◌, true, false, [], None, All, IfOk, IfErr, OnOk, IsErrOf, ◌<◌, Err};
 ghost use Rattle.mas_run.specs.Refusals.{refusal_before_play, said_by, steps_of, IsSaid};
-ghost use Rattle.mas_run.specs.Runs.{IsRun};
+ghost use Rattle.mas_run.specs.Runs.{IsRun, run_result};
 ghost use Rattle.mas_run.specs.Statuses.{IsStill};
 
 use crate::play::play_asked;
@@ -75,8 +75,8 @@ pub fn play_steps<P: Plant + Drop>(alloc: Global, cold: bool, script: Script, pl
         × (form_needs (page_count result.base.config) ≤ (P.view plant).size Ckpt2) }
     ensures roomy { has_begun result.base ≡ true → AreRoomy (P.view result.plant) result.base.config }
     ensures run { has_begun result.base ≡ true
-        → IsRun cold P.tells script result.status result.base result.journal result.since (P.view plant)
-        (P.view result.plant) }
+        → IsRun cold P.tells script (P.view plant)
+        (run_result result.status result.base result.journal result.since (P.view result.plant)) }
     ensures stepless { script.steps ≡ [] → P.tells → AreVolumesKept (P.view plant) (P.view result.plant) }
 {
     match open_run(alloc, cold, &script, plant) {
@@ -171,8 +171,8 @@ pub fn play_script<P: Plant + Drop, S: Source>(
     ensures read { S.tells → has_begun result.base ≡ true → S.left script.new ≡ [] }
     ensures run { has_begun result.base ≡ true
         → ((read : ScriptLem) × (S.tells → IsSaid cold only (S.left script.old) read)
-        × IsRun cold P.tells read result.status result.base result.journal result.since (P.view plant)
-        (P.view result.plant)) }
+        × IsRun cold P.tells read (P.view plant)
+        (run_result result.status result.base result.journal result.since (P.view result.plant))) }
     ensures formats { only ≡ true → P.tells → AreVolumesKept (P.view plant) (P.view result.plant) }
 
     // What neither a fault, nor a line that loses a copy, nor a takeover of the lock hinders is played to its end,

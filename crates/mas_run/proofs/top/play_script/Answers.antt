@@ -1,4 +1,4 @@
-use Rattle.mas_run.proofs.Names.{◌≡◌, inr, false, List, [], Option, ap, subst, Status, Step, Answers, is_refusal, said_by, steps_of, AreLeftAlone, TakesNone, IsNotStarted, kept_none, not_unplayed}
+use Rattle.mas_run.proofs.Names.{◌≡◌, inr, false, List, [], Option, ap, subst, Status, Step, Answers, is_refusal, said_by, steps_of, AreLeftAlone, TakesNone, IsNotStarted, kept_none, not_unplayed, run_result}
 use Rattle.mas_run.proofs.AloneLemmas.{not_both}
 use Rattle.mas_run.proofs.RefusalLemmas.{answers_said, ends}
 use Rattle.mas_run.proofs.top.play_script.Goals as goal
@@ -19,7 +19,7 @@ returns-in-Ok-clause-complete g c tells none still =
     let e = c.play_steps.ensures in
     ends c.args.cold answer g.P.Plant.tells steps (g.S.Source.faults c.args.script.now) (g.S.Source.faults c.read_all.new.source) old new fine
     (λ is. absurd (e.no_source is)) e.cause still
-    (λ lost told alone takes. not_both g.P.Plant.tells told c.in-Ok.script answer c.play_steps.result.base c.play_steps.result.journal c.play_steps.result.since old new
+    (λ lost told alone takes. not_both g.P.Plant.tells told c.in-Ok.script old (run_result answer c.play_steps.result.base c.play_steps.result.journal c.play_steps.result.since new)
     c.in-Ok.ensures.fits.steps (subst (λ (l : List Step). TakesNone old new [] l) same takes) c.args.cold
     (subst (λ (l : List Step). AreLeftAlone l old new) same alone)
     (λ warm none. subst (λ (s : Status). IsNotStarted g.P.Plant.tells s old new) lost (e.unstarted warm none)) (λ cold none. e.loses none (inr cold)) e.run (e.cause.failed1 lost) (e.cause.failed2 lost))

@@ -1,30 +1,12 @@
-use Rattle.mas_run.proofs.Names.{rules, ◌∙◌, ◌≤◌, sym, ap, subst, Ckpt1, Ckpt2, Queue, form_needs, page_count, AreRoomy, IsPlay, has_begun, proceeds_on, roomy_on}
-use Rattle.mas_run.proofs.RunLemmas.{run_of_lines, run_of_none, stepless_kept}
+use Rattle.mas_run.proofs.Names.{rules, ◌∙◌, ◌≤◌, sym, ap, subst, Ckpt1, Ckpt2, Queue, form_needs, page_count, AreRoomy, IsPlay, has_begun, proceeds_on, roomy_on, run_result}
+use Rattle.mas_run.proofs.RunLemmas.{run_of_lines, run_of_none, stepless_kept, stepless_run}
 use Rattle.run_opening.proofs.WarmLemmas.{no, play_begins, play_not_source, play_not_text}
 use Rattle.mas_run.proofs.top.play_steps.Goals as goal
 
 -- A RUN THAT IS OPEN
 
-pub play_asked-requires-clause-between : goal.play_asked-requires-clause-between
-play_asked-requires-clause-between g c = c.in-Ok.ensures.open.between
-
-pub play_asked-requires-clause-shows : goal.play_asked-requires-clause-shows
-play_asked-requires-clause-shows g c = c.in-Ok.ensures.open.shows
-
-pub play_asked-requires-clause-settled : goal.play_asked-requires-clause-settled
-play_asked-requires-clause-settled g c = c.in-Ok.ensures.open.settled
-
-pub play_asked-requires-clause-unrenewed : goal.play_asked-requires-clause-unrenewed
-play_asked-requires-clause-unrenewed g c = c.in-Ok.ensures.open.unrenewed
-
-pub play_asked-requires-clause-some : goal.play_asked-requires-clause-some
-play_asked-requires-clause-some g c = c.in-Ok.ensures.open.some
-
-pub play_asked-requires-clause-there1 : goal.play_asked-requires-clause-there1
-play_asked-requires-clause-there1 g c = c.in-Ok.ensures.open.there1
-
-pub play_asked-requires-clause-there2 : goal.play_asked-requires-clause-there2
-play_asked-requires-clause-there2 g c = c.in-Ok.ensures.open.there2
+pub play_asked-requires-clause-open : goal.play_asked-requires-clause-open
+play_asked-requires-clause-open g c = assumption (c.in-Ok.ensures.open)
 
 pub returns-in-Ok : goal.returns-in-Ok
 returns-in-Ok g c =
@@ -37,7 +19,9 @@ returns-in-Ok g c =
     let w = P.view z.plant in
     let script = c.args.script in
     let has = ap has_begun e.base ∙ o.has in
-    let play : IsPlay P.tells script.steps z.status x.base x.journal.batches z.journal x.since (P.view x.plant) w = rw (c.as_slice.ensures, e.base, e.since) at e.play in
+    let end = run_result z.status x.base z.journal x.since w in
+    let play : IsPlay P.tells script.steps x.journal.batches (P.view x.plant) end = rw (c.as_slice.ensures, e.base, e.since) at e.play in
+    let ran = run_of_lines c.args.cold script old x c.in-Ok.run'.members o z.status z.journal w e.goes play in
     record {
       refused = o.answers z.status (play_begins z.status x.base e.kind o.has) (play_not_text z.status e.kind);
       device = search rules;
@@ -59,10 +43,8 @@ returns-in-Ok g c =
       room = λ has.
           subst (λ (q : Queue). (form_needs (page_count q.config) ≤ old.size Ckpt1) × (form_needs (page_count q.config) ≤ old.size Ckpt2)) (sym e.base) o.room;
       roomy = λ has. subst (λ (q : Queue). AreRoomy w q.config) (sym e.base) (roomy_on (P.view x.plant) w x.base.config e.goes o.roomy);
-      run = λ has. rw (e.base, e.since) (run_of_lines c.args.cold script old x c.in-Ok.run'.members o z.status z.journal w e.goes play);
-      stepless = λ none told.
-          stepless_kept c.args.cold P.tells script z.status x.base z.journal x.since old w none (λ t unbegun. absurd (no x.base o.has unbegun))
-          (λ has. run_of_lines c.args.cold script old x c.in-Ok.run'.members o z.status z.journal w e.goes play) told;
+      run = λ has. rw (e.base, e.since) ran;
+      stepless = λ none told. stepless_run c.args.cold P.tells script old end none ran told;
     }
 
 -- ONE THAT ENDED BEFORE ITS LINES
@@ -78,5 +60,5 @@ returns-clause-stepless g c none told =
     let P = g.P.Plant in
     let z = c.in-Err.ended in
     let e = c.in-Err.ensures.ended in
-    stepless_kept c.args.cold P.tells c.args.script z.status z.base z.journal z.since (P.view c.args.plant) (P.view z.plant) none e.volumes
+    stepless_kept c.args.cold P.tells c.args.script (P.view c.args.plant) (run_result z.status z.base z.journal z.since (P.view z.plant)) none e.volumes
     (λ has. run_of_none c.args.cold P.tells c.args.script z.status z.base z.journal z.since (P.view c.args.plant) (P.view z.plant) (e.none has)) told

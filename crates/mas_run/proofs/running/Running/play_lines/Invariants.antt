@@ -14,7 +14,7 @@ invariant-loop-line g l =
       since : y.since ≡ x.since;
       between : BetweenLines y l.self.members (l.number + 1);
       readers : HaveRead y l.self.readers;
-      bare : AreOnTheWay P C ⊥ l.lines (parts_of x) l.line-index (parts_of y);
-      told : P.tells → AreOnTheWay P C (Unit {0}) l.lines (parts_of x) l.line-index (parts_of y);
+      bare : AreOnTheWay P C ⊥ l.lines (parts_of x) l.number (parts_of y);
+      told : P.tells → AreOnTheWay P C (Unit {0}) l.lines (parts_of x) l.number (parts_of y);
       copies : LeavesCopies P {T = Unit {0}} (parts_of x) (parts_of y) (Ok tt);
     }
