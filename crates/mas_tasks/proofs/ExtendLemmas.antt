@@ -110,10 +110,11 @@ module _ (told : Type 0) where
       (λ e. subst (λ (x : There). AreOver x.batches x.view.now) (sym e.0) here)
 
   -- the lines of a run
-  pub lines_over : (b : LinesBegun) (e : LinesEnded) → NonePassed b e ⊎ HavePassed told b e → AreOver e.batches e.view.now
-  lines_over b e passed = ⊎_elim
+  pub lines_over : (b : LinesBegun) (e : LinesEnded) → b.front ≡ [] → NonePassed b e ⊎ HavePassed told b e → AreOver e.batches e.view.now
+  lines_over b e front passed = ⊎_elim
       (λ none. subst (λ (bs : List Batch). AreOver bs e.view.now) (sym none.empty) tt)
-      (λ have. passed_over (starts b) have.given b.steps e.many (stops e have.result) have.passed tt)
+      (λ have. subst (λ (bs : List Batch). AreOver (bs ++ e.batches) e.view.now) front
+      (passed_over (starts b) have.given b.steps e.many (stops b e have.result) have.passed (subst (λ (bs : List Batch). AreOver bs b.view.now) (sym front) tt)))
       passed
 
 -- WHAT IS KEPT AND IN FLIGHT from then on

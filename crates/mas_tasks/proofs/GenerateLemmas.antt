@@ -32,7 +32,7 @@ use Rattle.run_opening.specs.Lines.{Proceeds}
 use Rattle.run_opening.specs.Refusals.{is_of_script, IsPlayedOut}
 use Rattle.mas_run.specs.Refusals.{refusal_before_play}
 use Rattle.run_opening.specs.Runs.{has_begun, Begins, IsSafe}
-use Rattle.mas_run.specs.Runs.{IsRun, LinesBegun, LinesEnded, ReplacesNone, WerePlayed}
+use Rattle.mas_run.specs.Runs.{IsRun, LinesBegun, LinesEnded, ReplacesNone, RunResult, WerePlayed, run_result}
 use Rattle.run_opening.specs.Statuses.{IsCaused, is_unplayed}
 use Rattle.member_node.specs.Calls.{console_now}
 use Rattle.run_opening.proofs.ProceedLemmas.{proceeds_none, proceeds_of}
@@ -201,19 +201,19 @@ none_renewed tells b e first old none played = ⊎_elim
     ∙ ap (λ (rs : List Renewal). let both : Renewals = record { first = []; second = rs } in both) (have.unrenewed2 (none Ckpt2)))
     played.bare
 
-pub whole_safe : (tells : Type 0) (script : Script) (base : Queue) (J : Journal) (since : ℕ) (ended : Status) (v0 v1 : View) → IsRun true tells script ended base J since v0 v1
-    → ((d : Dev) → ReplacesNone d script.steps) → IsSafe tells base J no_renewals since v1
-whole_safe tells script base J since ended v0 v1 run none =
-    subst (λ (rs : Renewals). IsSafe tells base J rs since v1) (none_renewed tells _ _ run.first v0 none run.steps.played) run.steps.safe
+pub whole_safe : (tells : Type 0) (script : Script) (v0 : View) (end : RunResult) → IsRun true tells script v0 end
+    → ((d : Dev) → ReplacesNone d script.steps) → IsSafe tells end.base end.journal no_renewals end.since end.view
+whole_safe tells script v0 end run none =
+    subst (λ (rs : Renewals). IsSafe tells end.base end.journal rs end.since end.view) (none_renewed tells _ _ run.first v0 none run.steps.played) run.steps.safe
 
 -- a run that was played, with what was said then
 pub run_safe : (tells : Type 0) (script : Script) (base : Queue) (J : Journal) (since : ℕ) (s : Summary) (answer ended : Status) (v0 v1 v2 : View) → v2.now < top
-    → IsRun true tells script ended base J since v0 v1 → ((d : Dev) → ReplacesNone d script.steps) → Ends tells (summary_line s) v1 v2 answer → IsSafe tells base J no_renewals since v2
+    → IsRun true tells script v0 (run_result ended base J since v1) → ((d : Dev) → ReplacesNone d script.steps) → Ends tells (summary_line s) v1 v2 answer → IsSafe tells base J no_renewals since v2
 run_safe tells script base J since s answer ended v0 v1 v2 low run none ends = by_told tells base J since v2 (λ told.
     let steps = run.steps in
     let all : J.batches ≡ steps.rest = steps.batches ∙ ap (λ (bs : List Batch). bs ++ steps.rest) steps.opened.0 in
-    let over : AreOver J.batches v1.now = subst (λ (bs : List Batch). AreOver bs v1.now) (sym all) (lines_over (Unit {0}) _ _ (steps.played.told told)) in
-    ends_safe base J since s v1 v2 run.moment.1 low over tells told answer ends (whole_safe tells script base J since ended v0 v1 run none))
+    let over : AreOver J.batches v1.now = subst (λ (bs : List Batch). AreOver bs v1.now) (sym all) (lines_over (Unit {0}) _ _ steps.opened.0 (steps.played.told told)) in
+    ends_safe base J since s v1 v2 run.begun.moment.1 low over tells told answer ends (whole_safe tells script v0 (run_result ended base J since v1) run none))
 
 -- THERE IS NO MEMORY before anything is done
 

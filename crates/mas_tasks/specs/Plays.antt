@@ -2,7 +2,7 @@
 use Rattle.std.specs.Prelude.{◌≡◌, Bool, true, None}
 use Rattle.script_lang.specs.declared.types.Script.{Script}
 use Rattle.mas_run.specs.Refusals.{refusal_before_play, said_by, steps_of, IsSaid}
-use Rattle.mas_run.specs.Runs.{IsRun}
+use Rattle.mas_run.specs.Runs.{IsRun, run_result}
 use Rattle.mas_run.specs.Statuses.{IsStill}
 use Rattle.run_opening.specs.Refusals.{IsPlayedOut}
 use Rattle.run_opening.specs.Runs.{has_begun}
@@ -17,7 +17,7 @@ pub record IsPlayed (cold only : Bool) (source : Sourced) (r : RunEnd) : Type 0 
   -- one that has begun plays what its script asks for
   pub run : has_begun r.base ≡ true
       → ((script : Script) × (source.tells → IsSaid cold only source.left script)
-      × IsRun cold r.tells script r.answer r.base r.journal r.since r.old r.new)
+      × IsRun cold r.tells script r.old (run_result r.answer r.base r.journal r.since r.new))
   -- what neither a fault, nor a line that loses a copy, nor a takeover of the lock hinders is played to its end, where
   -- a warm run finds a queue and its devices are large enough for it
   pub complete : source.tells → refusal_before_play cold only source.left r.old ≡ None

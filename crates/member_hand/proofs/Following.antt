@@ -26,7 +26,7 @@ use Rattle.member_node.specs.Calls.{IsOnlyOn, VolumesStay, console_now}
 use Rattle.member_node.proofs.CourseLemmas.{only_on, papers_on, rose_later, rose_more, stay_both, stay_more}
 use Rattle.member_node.proofs.SpareLemmas.{spares_then}
 use Rattle.member_decks.proofs.OpenLemmas.{on_ok}
-use Rattle.member_decks.proofs.OutcomeLemmas.{causes_then}
+use Rattle.member_steps.proofs.KeepLemmas.{causes_then}
 use Rattle.job_outcome.specs.declared.outcomes.Read.{Read}
 use Rattle.job_outcome.specs.declared.outcomes.Read.TheVariants.{Gone, Lines, Lost}
 use Rattle.member_work.specs.Rounds.{HasFailed, HasPrinterFailed, IsReadAs, IsSpoolLost}

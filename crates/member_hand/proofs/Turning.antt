@@ -19,7 +19,7 @@ use Rattle.member_node.proofs.CourseLemmas.{only_on, papers_on, stay_then}
 use Rattle.member_steps.specs.Steps.{StepCauses}
 use Rattle.mas_complex.specs.CallCounts.{pair_at}
 use Rattle.member_decks.specs.Keeping.{CopyCauses}
-use Rattle.member_decks.proofs.OutcomeLemmas.{copy_causes}
+use Rattle.member_steps.proofs.KeepLemmas.{copy_causes}
 use Rattle.member_sittings.specs.declared.ends.SittingEnd.{SittingEnd}
 use Rattle.member_sittings.specs.Left.{Reach, ReachesBy, Said, said_nothing, said_of, torn_line}
 use Rattle.member_sittings.specs.Sat.{CopiesActed, HasActed, IsSat, Sat, Start, journal_of, sat_in, seated_in}

@@ -1,5 +1,5 @@
 -- A turn adds to the journal batches of its member alone, once what was in flight was found out, if it was.
-use Rattle.std.proofs.Common.{◌≡◌, ◌∙◌, ⊎_elim, ℕ, Bool, true, false, if◌then◌else◌, List, [], ◌∷◌, ◌++◌, append-nil, All, Some, None, Result, Ok, Err, ap, refl, subst, sym}
+use Rattle.std.proofs.Common.{◌≡◌, ◌∙◌, ⊎_elim, ℕ, true, false, List, [], ◌∷◌, ◌++◌, append-nil, All, Some, None, Result, Ok, Err, ap, subst, sym}
 use Rattle.std.proofs.lemmas.Bool.{eqb-true}
 use Rattle.std.proofs.lemmas.List.Elements.{All-cons, All-head, All-nil, All-weaker}
 use Rattle.mas_types.specs.declared.commands.Command.TheVariants as command
@@ -10,7 +10,6 @@ use Rattle.mas_types.specs.declared.journals.Entry.{Entry}
 use Rattle.mas_types.specs.declared.journals.Fate.{Fate}
 use Rattle.mas_types.specs.declared.journals.Fate.TheVariants.{Flying}
 use Rattle.mas_types.specs.declared.queues.Queue.{Queue}
-use Rattle.mas_types.specs.Journal.{is_flying}
 use Rattle.lock_cycle.specs.Books.{Book}
 use Rattle.gate_turns.specs.Actors.{ResetsStopped}
 use Rattle.gate_turns.specs.Seats.{shows_stopped}
@@ -39,21 +38,13 @@ use Rattle.member_resets.proofs.Acting.{changed_only, only_these}
 use Rattle.member_lines.specs.Closes.{stopped_so}
 use Rattle.member_racing.specs.Kinds.{ActsBy, HasSeat, SeatsAndResets, SitsBy, TakesBy}
 use Rattle.member_resets.specs.Resetting.{HasResetBy, IsTaken, TakesAndResets, TakesBy as ClosesTaken, taker_at}
-use Rattle.member_resets.specs.Settling.{IsResetPiece, reset_piece, settle, with_found}
+use Rattle.member_resets.specs.Settling.{IsResetPiece, reset_piece, settle}
 use Rattle.member_racing.specs.Turned.{Adds}
 use Rattle.member_racing.specs.Turning.{EndsTurn}
 use Rattle.member_racing.specs.declared.stages.Stage.{Stage as Stands}
 use Rattle.member_resets.proofs.Flights.{journal_unreserved}
 use Rattle.member_racing.proofs.OwnEntries.{FliesAt, IsGivenPiece, IsOwnBatch, MayFly, batched_of, left_its, left_of, of_quiet, own_fly}
-use Rattle.member_resets.proofs.SettleLemmas.{journal_still}
-
--- what nothing was found out of is as it was
-pub settle_none : (at : ℕ) (bs : List Batch) → settle Flying at bs ≡ bs
-settle_none at [] = refl
-settle_none at (b ∷ bs) = ap (λ (c : Batch). c ∷ settle Flying at bs) (same (is_flying b.fate)) ∙ ap (λ (cs : List Batch). b ∷ cs) (settle_none at bs) where
-  same : (t : Bool) → (if t then with_found Flying at b else b) ≡ b
-  same true = refl
-  same false = refl
+use Rattle.member_resets.proofs.SettleLemmas.{journal_still, settle_none}
 
 -- WHAT IS ADDED: batches of which this holds
 

@@ -30,7 +30,8 @@ use Rattle.member_racing.specs.Waits.{is_begun}
 use Rattle.member_racing.proofs.Adding.{AddsOf, Mine, acts_adds, adds_from, adds_none, adds_weaker, closes_adds, resets_adds, said_journal, sits_adds, takes_adds}
 use Rattle.member_racing.proofs.Asking.{begun_quietly, played_quietly}
 use Rattle.member_racing.proofs.Members.{some_of, somebody_of}
-use Rattle.member_racing.proofs.OpeningLemmas.{free_now, got_free, not_holder}
+use Rattle.member_racing.proofs.OpeningLemmas.{free_now, not_holder}
+use Rattle.member_resets.proofs.BookLemmas.{got_free}
 use Rattle.member_racing.proofs.OwnEntries.{MayFly, own_fly}
 use Rattle.member_racing.proofs.Turns.{left_is, nobody_is}
 use Rattle.member_sittings.specs.Sat.{journal_of}

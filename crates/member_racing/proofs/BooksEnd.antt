@@ -66,7 +66,7 @@ module _ {P C : Type 0} {plants : PlantGhosts P} {steadies : SteadyGhosts C} {co
     where
       from_mid : (tried ≢ Err no_node.Halted) → y.book ≡ mid.book → is_stopped x.book r.by ≡ true
       from_mid unlike same =
-          let still : Still r.by (done_of tried) x.book mid.book = tries_still plants copies r (parts_of x) (parts_of mid) m n tried mine some its tries in
+          let still : Still r.by (done_of tried) x.book mid.book = tries_still plants copies r (parts_of x) (parts_of mid) m n tried mine its tries in
           sym (still (λ is. unlike (not_halted is))) ∙ sym (ap (λ b. is_stopped b r.by) same) ∙ down
 
       by_halt : (t : Result Stands NodeNo) → tried ≡ t → y.book ≡ mid.book → (is_stopped x.book r.by ≡ true) ⊎ (tried ≡ Err no_node.Halted)

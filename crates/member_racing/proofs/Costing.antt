@@ -37,7 +37,7 @@ use Rattle.member_steps.specs.Noting.{OtherNotesStay}
 use Rattle.member_steps.specs.Saying.{OnConsole}
 use Rattle.member_steps.specs.Steps.{StepCauses}
 use Rattle.member_steps.proofs.NoteLemmas.{notes_none, notes_same, notes_then}
-use Rattle.member_decks.proofs.OutcomeLemmas.{causes_then, copy_causes}
+use Rattle.member_steps.proofs.KeepLemmas.{causes_then, copy_causes}
 use Rattle.member_sittings.specs.declared.ends.SittingEnd.{SittingEnd}
 use Rattle.member_sittings.specs.Sat.{IsSat, Start}
 use Rattle.member_work.specs.Printing.{IsBeside}

@@ -20,7 +20,7 @@ use Rattle.lock_cycle.specs.Books.{is_stopped}
 use Rattle.spool_plant.specs.declared.plant.Plant.{Ghosts as PlantGhosts}
 use Rattle.ckpt_copy.specs.declared.copying.Copying.{Ghosts as CopyGhosts}
 use Rattle.ckpt_form.specs.declared.steady.Steady.{Ghosts as SteadyGhosts}
-use Rattle.mas_complex.proofs.Batches.{with_last-append, without_last-append, kept_all_append, placed_all, past_kept, run_append}
+use Rattle.mas_complex.proofs.Batches.{with_last-append, without_last-append, kept_all_append, placed_all, run_append, past_kept}
 use Rattle.mas_complex.specs.declared.complex.Complex.{Complex}
 use Rattle.mas_complex.specs.Journals.{EndsInPlace, IsBegun, end_of, in_flight, kept_all, past_batches, with_last, without_last}
 use Rattle.mas_complex.specs.Meaning.{run}
@@ -217,7 +217,7 @@ module _ {P C : Type 0} {plants : PlantGhosts P} {steadies : SteadyGhosts C} {co
         (subst (λ (q : Queue). All (IsGiven q) (kept_all y.journal.batches)) base
         (subst (λ (es : List Entry). All (IsGiven y.base) es) (past_kept y.placed y.journal.batches y.place)
         (each_kept (IsGiven y.base) past
-        (all_front (λ (b : Batch). All (IsGiven y.base) b.entries) past (in_flight y.current) (given_each y.base (past ++ in_flight y.current) k.given))))) in
+        (given_each y.base past k.given)))) in
         record {
           es = more;
           is = ap (λ (q : Queue). run q (kept_all y.journal.batches)) base ∙ ap (run x.base) grown ∙ run_append x.base (kept_all x.journal.batches) more;

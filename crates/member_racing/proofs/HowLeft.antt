@@ -258,7 +258,7 @@ module _ {P C : Type 0} (plants : PlantGhosts P) (copies : CopyGhosts C) where
     mid_holder mid is = ap (λ (b : Book). b.holder) is ∙ seized_holder x.book by of down left
 
     mid_same : (mid : Parts P C) → mid.book ≡ after_seize x.book by of → entered mid.book by ≡ mid.book
-    mid_same mid is = entered_same mid.book by (ap (λ (b : Book). is_stopped b by) is ∙ seized_same by some x.book of ∙ up) (mid_holder mid is)
+    mid_same mid is = entered_same mid.book by (ap (λ (b : Book). is_stopped b by) is ∙ seized_same by x.book of ∙ up) (mid_holder mid is)
 
     untaken_holder : (e : NodeNo) → y.book ≡ untaken_book e by of x.book → y.book.holder ≡ by
     untaken_holder no_node.Halted is = ap (λ (b : Book). b.holder) is ∙ seized_holder x.book by of down left
@@ -283,7 +283,7 @@ module _ {P C : Type 0} (plants : PlantGhosts P) (copies : CopyGhosts C) where
       some = one;
       few = few;
       seated = subst (λ (b : Book). IsMember b by) (sym is) (inside_only by x.book (after_seize x.book by of) (seized_only by x.book inside of) inside);
-      up = ap (λ (b : Book). is_stopped b by) is ∙ seized_same by some x.book of ∙ up;
+      up = ap (λ (b : Book). is_stopped b by) is ∙ seized_same by x.book of ∙ up;
       free = inl (mid_holder mid is);
     }
 
@@ -349,7 +349,7 @@ module _ {P C : Type 0} {plants : PlantGhosts P} {steadies : SteadyGhosts C} {co
 
     by_left : (l : Option MemberId) → left_holder x.book ≡ l → UnlessLeft plants copies l (stood_of r) z y result (WaitsOn plants copies (stood_of r) z y result) → How
     by_left None is w = inl (same_still plants copies p z y refl same w.frame)
-    by_left (Some of) is u = taken_up z of refl is same (tried_only m.id x.book inside false) (tried_same m.id some x.book false ∙ known.0.up) u
+    by_left (Some of) is u = taken_up z of refl is same (tried_only m.id x.book inside false) (tried_same m.id x.book false ∙ known.0.up) u
   opens_how (Plays task) known o = inr (how_sits plants copies _ z y n (got known.0.up known.1) own result o)
   opens_how (Resets of) known o = inr (how_resets plants copies _ of z y (got known.0.up known.1) (length m.room) (room known.0.up) (done_of result) o.1)
   opens_how (TakesOver of) known o =

@@ -8,9 +8,8 @@ use Rattle.mas_types.specs.declared.queues.Queue.{Queue}
 use Rattle.mas_types.specs.Ids.{is_somebody, nobody}
 use Rattle.mas_types.specs.Limits.{members_most}
 use Rattle.lock_cycle.specs.declared.answers.LockNo.{LockNo}
-use Rattle.lock_cycle.specs.declared.answers.LockNo.TheVariants as lock
 use Rattle.lock_cycle.specs.declared.standings.Standing.{Standing}
-use Rattle.lock_cycle.specs.Books.{Book, IsMember, after_try, beginner, granted, is_dormant, is_holder, is_stopped, left_of, standing, ticked, try_refusal, wakes}
+use Rattle.lock_cycle.specs.Books.{Book, IsMember, after_try, beginner, granted, is_holder, is_stopped, left_of, standing, ticked, try_refusal}
 use Rattle.spool_plant.specs.declared.plant.Plant.{Ghosts as PlantGhosts}
 use Rattle.ckpt_copy.specs.declared.copying.Copying.{Ghosts as CopyGhosts}
 use Rattle.ckpt_form.specs.declared.steady.Steady.{Ghosts as SteadyGhosts}
@@ -40,6 +39,7 @@ use Rattle.member_node.specs.declared.member.NodeNo.{NodeNo}
 use Rattle.run_turns.specs.Admissions.{Admission, admitted}
 use Rattle.member_lines.specs.Admissions.{AreFewUnits as FewAsked, admission_of, tested_as}
 use Rattle.member_resets.specs.Plays.{played_in}
+use Rattle.member_resets.proofs.Entering.{quiet_with}
 use Rattle.member_resets.proofs.PieceLemmas.{played_frame}
 use Rattle.member_node.specs.declared.member.NodeNo.TheVariants as no_node
 use Rattle.member_lines.specs.Closes.{IsSayer, stopped_so}
@@ -132,24 +132,6 @@ module _ (b : Book) (by : MemberId) where
         ap (λ (s : Bool). then_try (s || is_holder b by) (try_refusal b by false)) up ∙ ap (λ (h : Bool). then_try (false || h) (try_refusal b by false)) other
         ∙ ap (λ (r : Option LockNo). then_try (false || false) r) got
 
-    abbrev refusal : Bool → Bool → Bool → Option LockNo
-    refusal stopped holds held =
-        if stopped then Some lock.Down
-        else if holds then None
-        else if held then Some (lock.Busy b.holder)
-        else if is_dormant b by false then Some (lock.Dormant (wakes b by))
-        else None
-
-    free_by : (held : Bool) → is_somebody b.holder ≡ held → refusal false false held ≡ None → is_somebody b.holder ≡ false
-    free_by true is none = absurd (cc)
-    free_by false is none = is
-
-    -- nobody held it
-    pub got_free : is_somebody b.holder ≡ false
-    got_free =
-        free_by (is_somebody b.holder) refl
-        (sym (ap (λ (s : Bool). refusal s (is_holder b by) (is_somebody b.holder)) up ∙ ap (λ (h : Bool). refusal false h (is_somebody b.holder)) other) ∙ got)
-
     pub got_members : length (after_try b by false).members ≡ length b.members
     got_members = ap (λ (d : Book). length d.members) got_book ∙ length-set b.members (by.0 - 1) _
 
@@ -200,19 +182,6 @@ not_holder b m unheld some up = by_test (is_holder b m) refl where
 
 -- A MEMBER THAT HAS THE LOCK MAY GO ON
 
-quiet_as : {P C : Type 0} (plants : PlantGhosts P) (copies : CopyGhosts C) (x : Parts P C) (b : Book) (pages : ℕ) → IsQuiet plants copies x pages → IsQuiet plants copies (record x { book = b }) pages
-quiet_as plants copies x b pages q = record {
-  none = q.none;
-  unplaced = q.unplaced;
-  unreserved = q.unreserved;
-  first = q.first;
-  second = q.second;
-  sound = q.sound;
-  kept = q.kept;
-  begun = q.begun;
-  roomy = q.roomy;
-}
-
 module _ {P C : Type 0} {plants : PlantGhosts P} {steadies : SteadyGhosts C} {copies : CopyGhosts C} (x : Complex P C plants steadies copies) (m : Member) (at : ℕ) (what : Ask) (s : Stands) (may : MayTurn x m at what s) (opened : first_unsaid at s ≡ at)
     (none : x.book.holder ≡ nobody) (up : is_stopped x.book m.id ≡ false) where
   abbrev p : Parts P C
@@ -228,7 +197,7 @@ module _ {P C : Type 0} {plants : PlantGhosts P} {steadies : SteadyGhosts C} {co
       let levels = levels_few state off few in
       record {
         aside = record {
-          quiet = quiet_as plants copies p b (length m.room) (subst (λ (k : ℕ). IsQuiet plants copies p k) (sym ease.many) quiet);
+          quiet = quiet_with plants copies p b p.reserved quiet.unreserved (length m.room) (subst (λ (k : ℕ). IsQuiet plants copies p k) (sym ease.many) quiet);
           idle = ease.idle;
           noted = ease.noted;
           config = ease.tables;

@@ -106,7 +106,7 @@ module _ {P C : Type 0} {plants : PlantGhosts P} {steadies : SteadyGhosts C} {co
   moved q t same w = subst Waiting (sym same) w
 
   still : (q : Stands) → tried ≡ Ok q → is_stopped mid.book by ≡ is_stopped x.book by
-  still q is = tries_still plants copies r p k m n tried refl somebody (its_by x mid m n at what s tried rest waits tries) tries (subst (λ (t : Result Stands NodeNo). done_of t ≢ Err no_node.Halted) (sym is) (not_halted q))
+  still q is = tries_still plants copies r p k m n tried refl (its_by x mid m n at what s tried rest waits tries) tries (subst (λ (t : Result Stands NodeNo). done_of t ≢ Err no_node.Halted) (sym is) (not_halted q))
 
   -- THE LOCK WAS TAKEN OVER in the middle
 

@@ -24,9 +24,9 @@ use Rattle.spool_plant.specs.declared.plant.Plant.{Ghosts as PlantGhosts}
 use Rattle.ckpt_copy.specs.declared.copying.Copying.{Ghosts as CopyGhosts}
 use Rattle.ckpt_form.specs.declared.steady.Steady.{Ghosts as SteadyGhosts}
 use Rattle.duplex_pair.specs.Halves.{SomeAlive}
-use Rattle.mas_complex.proofs.Batches.{kept_all_append, past_kept, run_append}
+use Rattle.mas_complex.proofs.Batches.{kept_all_append, run_append, past_kept}
 use Rattle.mas_complex.specs.declared.complex.Complex.{Complex}
-use Rattle.mas_complex.specs.Journals.{end_of, in_flight, kept_all, past_batches}
+use Rattle.mas_complex.specs.Journals.{end_of, entries_in, in_flight, kept_all, past_batches}
 use Rattle.mas_complex.specs.Meaning.{run}
 use Rattle.mas_complex.specs.Paper.{AreGivenIn, counts_of}
 use Rattle.mas_complex.specs.Parts.{Parts, parts_of}
@@ -55,7 +55,7 @@ use Rattle.member_racing.specs.Kinds.{ResetsTaken}
 use Rattle.member_racing.proofs.GroupsStill.{Kept as KeptGroup}
 use Rattle.member_racing.proofs.Histories.{each_kept}
 use Rattle.member_racing.proofs.OthersGave.{OthersGave}
-use Rattle.member_racing.proofs.Resting.{all_back, all_front}
+use Rattle.member_racing.proofs.Resting.{all_back}
 use Rattle.member_racing.proofs.Settled.{found_of, kept_settled}
 use Rattle.member_racing.proofs.Turns.{left_is}
 
@@ -90,8 +90,8 @@ given_each base [] given = All-nil (λ (b : Batch). All (IsGiven base) b.entries
 given_each base (b ∷ bs) given = All-cons (λ (b : Batch). All (IsGiven base) b.entries) b bs given.0 (given_each base bs given.1)
 
 -- of a batch in flight, what holds of each entry of it holds of what was found kept
-found_all : (R : Entry → Type 0) (f : Fate) (o : Option Batch) → All (λ (b : Batch). All R b.entries) (in_flight o) → All R (found_of f o)
-found_all R Kept (Some c) all = All-head (λ (b : Batch). All R b.entries) c [] all
+found_all : (R : Entry → Type 0) (f : Fate) (o : Option Batch) → All R (entries_in o) → All R (found_of f o)
+found_all R Kept (Some c) all = all
 found_all R Kept None all = All-nil R
 found_all R Dropped o all = All-nil R
 found_all R Flying o all = All-nil R
@@ -182,17 +182,15 @@ module _ {P C : Type 0} {plants : PlantGhosts P} {steadies : SteadyGhosts C} {co
   some_by : (k : MemberId) → IsMember x.book k → is_somebody k ≡ true
   some_by k inside = let some = inside.0 in ap not (ne_eqb k.0 0 (λ zero. omega (arith, some, zero)))
 
-  flight_passes : plants.tells → (o : Option Batch) → x.current ≡ o → All (λ (b : Batch). All (Passes m) b.entries) (in_flight o)
-  flight_passes t None is = All-nil (λ (b : Batch). All (Passes m) b.entries)
+  flight_passes : plants.tells → (o : Option Batch) → x.current ≡ o → All (Passes m) (entries_in o)
+  flight_passes t None is = All-nil (Passes m)
   flight_passes t (Some c) is =
       let f = rest.flying some c is in
       let own : All (λ (b : Batch). All (λ e. e.by ≡ b.by) b.entries) (c ∷ []) = subst (λ (o : Option Batch). All (λ (b : Batch). All (λ e. e.by ≡ b.by) b.entries) (in_flight o)) is (all_back (λ (b : Batch). All (λ e. e.by ≡ b.by) b.entries) p.batches (in_flight p.current) rest.own) in
       let stopped : All (λ (b : Batch). All (λ e. is_somebody e.by ≡ true → ResetsStopped x.book e.command) b.entries) (c ∷ []) =
       subst (λ (o : Option Batch). All (λ (b : Batch). All (λ e. is_somebody e.by ≡ true → ResetsStopped x.book e.command) b.entries) (in_flight o)) is
       (all_back (λ (b : Batch). All (λ e. is_somebody e.by ≡ true → ResetsStopped x.book e.command) b.entries) p.batches (in_flight p.current) (rest.resets t)) in
-      All-cons (λ (b : Batch). All (Passes m) b.entries) c []
-      (passes_of c (some_by c.by f.0) f.1 c.entries (All-head (λ (b : Batch). All (λ e. e.by ≡ b.by) b.entries) c [] own) (All-head (λ (b : Batch). All (λ e. is_somebody e.by ≡ true → ResetsStopped x.book e.command) b.entries) c [] stopped))
-      (All-nil (λ (b : Batch). All (Passes m) b.entries))
+      passes_of c (some_by c.by f.0) f.1 c.entries (All-head (λ (b : Batch). All (λ e. e.by ≡ b.by) b.entries) c [] own) (All-head (λ (b : Batch). All (λ e. is_somebody e.by ≡ true → ResetsStopped x.book e.command) b.entries) c [] stopped)
 
   -- as if the stopped member had reset itself: the queue is the same
   abbrev as_its : Entry
@@ -224,10 +222,9 @@ module _ {P C : Type 0} {plants : PlantGhosts P} {steadies : SteadyGhosts C} {co
         ∥∥₁_map (x.paper t (sound t))
         (λ k.
         let past : List Batch = past_batches x.placed x.journal.batches in
-        let each : All (λ (b : Batch). All (IsGiven x.base) b.entries) (past ++ in_flight p.current) = given_each x.base (past ++ in_flight p.current) k.given in
-        let flew : All (IsGiven x.base) found = found_all (IsGiven x.base) took.found p.current (all_back (λ (b : Batch). All (IsGiven x.base) b.entries) past (in_flight p.current) each) in
+        let flew : All (IsGiven x.base) found = found_all (IsGiven x.base) took.found p.current k.coming_given in
         let was : All (IsGiven x.base) (kept_all p.batches) =
-        subst (λ (es : List Entry). All (IsGiven x.base) es) (past_kept x.placed x.journal.batches x.place) (each_kept (IsGiven x.base) past (all_front (λ (b : Batch). All (IsGiven x.base) b.entries) past (in_flight p.current) each)) in
+        subst (λ (es : List Entry). All (IsGiven x.base) es) (past_kept x.placed x.journal.batches x.place) (each_kept (IsGiven x.base) past (given_each x.base past k.given)) in
         let reset : IsGiven x.base as_its = record { by = of_member; fit = tt } in
         record {
           es = found ++ as_its ∷ [];

@@ -70,13 +70,14 @@ use Rattle.member_racing.specs.Waits.{Waits, WaitsAt}
 use Rattle.member_racing.specs.declared.stages.Stage.{Stage as Stands}
 use Rattle.member_racing.specs.declared.stages.Stage.TheVariants as line
 use Rattle.member_racing.proofs.ActedLeft.{calm_here}
-use Rattle.member_racing.proofs.Adding.{end_base, end_journal, settle_none}
+use Rattle.member_resets.proofs.SettleLemmas.{settle_none}
+use Rattle.member_racing.proofs.Adding.{end_base, end_journal}
 use Rattle.member_racing.proofs.BooksStill.{tries_still}
 use Rattle.member_racing.proofs.Costing.{TurnActs}
 use Rattle.member_racing.proofs.Histories.{journal_kept}
 use Rattle.member_racing.proofs.Journaled.{journal_begun}
 use Rattle.member_racing.proofs.Later.{begun_at, desk_at, lines_at, stopped_at}
-use Rattle.member_racing.proofs.Members.{few_of, named_own, some_of, somebody_of}
+use Rattle.member_racing.proofs.Members.{few_of, named_own, some_of}
 use Rattle.member_racing.proofs.Settled.{found_of, kept_settled, settle_begun}
 use Rattle.member_racing.proofs.TurnKinds.{halts_early, went}
 use Rattle.member_racing.proofs.TurnLeft.{HasGone, IsCutOf, IsOwnText, OwnLines, left_pieces, queue_found, turn_in}
@@ -276,7 +277,7 @@ module _ {P C : Type 0} {plants : PlantGhosts P} {steadies : SteadyGhosts C} {co
     well q is e =
         let same = same_view e.0 in
         let uncut : gone.cut ≡ None = subst (λ (k : Result Stands NodeNo). IsCutOf plants copies k gone.cut) is gone.by_answer in
-        let still : is_stopped mid.book by ≡ is_stopped x.book by = tries_still plants copies r p (parts_of mid) m n tried refl (somebody_of x.base.config by waits.member) (its_by x mid m n at what s tried rest waits tries) tries (λ halted. not_err q is halted) in
+        let still : is_stopped mid.book by ≡ is_stopped x.book by = tries_still plants copies r p (parts_of mid) m n tried refl (its_by x mid m n at what s tried rest waits tries) tries (λ halted. not_err q is halted) in
         record {
           batches = ap (λ (c : Option Cut). (left_mid c).batches) (sym uncut);
           console = console_by same;

@@ -59,7 +59,7 @@ use Rattle.member_resets.proofs.Inking.{halts_idle}
 use Rattle.member_lines.specs.Closes.{HasClosed, HasStoodBy, IsCutAs, left_at, stopped_so}
 use Rattle.member_resets.specs.Resetting.{HasResetBy, IsTaken, IsUntaken, TakeCauses, TakesBy as ClosesTaken, taker_at}
 use Rattle.member_resets.specs.Settling.{settle}
-use Rattle.member_resets.proofs.SettleLemmas.{journal_still}
+use Rattle.member_resets.proofs.SettleLemmas.{settle_none, journal_still}
 use Rattle.member_racing.specs.Asked.{IsKnown}
 use Rattle.member_racing.specs.Kinds.{ActsBy, SitsBy, TakesBy}
 use Rattle.member_racing.specs.Opened.{ClosesRefused, ComesTo, GoesAs, OpensAs, TakesUp, UnlessLeft, WaitsOn, done_of}
@@ -70,12 +70,13 @@ use Rattle.member_racing.specs.Waits.{IsMine, IsStillRight, MayActNext, Waits, W
 use Rattle.member_racing.specs.declared.stages.Stage.{Stage as Stands}
 use Rattle.member_racing.specs.declared.stages.Stage.TheVariants as line
 use Rattle.member_racing.proofs.ActedLeft.{acted_count, calm_here, found_here}
-use Rattle.member_racing.proofs.Adding.{said_journal, settle_none}
+use Rattle.member_racing.proofs.Adding.{said_journal}
 use Rattle.member_racing.proofs.Books.{OnlyBy, only_none, tried_only}
 use Rattle.member_racing.proofs.BooksStill.{tried_same}
 use Rattle.member_racing.proofs.HowLeft.{mid_may}
 use Rattle.member_racing.proofs.Members.{few_of, inside_of, some_of, somebody_of}
-use Rattle.member_racing.proofs.OpeningLemmas.{denied_holder, free_now, got_free, got_may, hold_free, not_holder}
+use Rattle.member_resets.proofs.BookLemmas.{got_free}
+use Rattle.member_racing.proofs.OpeningLemmas.{denied_holder, free_now, got_may, hold_free, not_holder}
 use Rattle.member_racing.proofs.TurnLeft.{HasGone, IsOwnText, cut_so, gone_by, own_closing, queue_found, turn_in, whole_so}
 use Rattle.member_racing.proofs.TurnSits.{PieceGone, gone_none, gone_nothing, gone_piece, piece_as, seen_from}
 use Rattle.member_racing.proofs.TurnTakes.{gave_gone, reset_piece_of, resets_gone, same_done, sits_gone, sits_next, sits_silent, unseated_gave, whole_gave}
@@ -498,7 +499,7 @@ module _ {P C : Type 0} {plants : PlantGhosts P} {steadies : SteadyGhosts C} {co
     by_left : (l : Option MemberId) → left_holder x.book ≡ l → UnlessLeft plants copies l (stood_of (at_stage line.Opens)) z y result (WaitsOn plants copies (stood_of (at_stage line.Opens)) z y result) → Gone line.Opens
     by_left None left w = waits_gone line.Opens z refl refl refl (turn_at_left None left Flying 0 0 nothing_found) tt w
     by_left (Some of) left u =
-        taken_gone of left line.Opens z refl refl refl refl (denied_holder x.book by why known.1) (tried_only by x.book inside false) (tried_same by its_name x.book false ∙ known.0.up) (turn_at_left (Some of) left) (λ f moment. tt) u
+        taken_gone of left line.Opens z refl refl refl refl (denied_holder x.book by why known.1) (tried_only by x.book inside false) (tried_same by x.book false ∙ known.0.up) (turn_at_left (Some of) left) (λ f moment. tt) u
   opens_gone (Plays task) is known o =
       let free = got_none known.0.up known.1 in
       sat_gone line.Opens z (racer x.base.config by at) (Fresh task) nothing_found refl refl refl refl (none_at free) (unplaced_at free) free refl (got known.0.up known.1) (λ told. absurd (cc)) known.3 (turn_opens (Plays task) is Flying 0 0 nothing_found) tt o

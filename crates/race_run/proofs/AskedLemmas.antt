@@ -1,23 +1,18 @@
 -- A line of a script that may stand in a race, within the limits: what becomes of it, whatever the book says.
-use Rattle.std.proofs.Common.{◌≡◌, ◌+◌, ◌≤◌, ℕ, Bool, true, false, if◌then◌else◌, List, [], ◌∷◌, length, All, Some, inl, inr, refl, ap, subst, arith}
+use Rattle.std.proofs.Common.{◌≡◌, ◌+◌, ◌≤◌, ℕ, Bool, true, false, if◌then◌else◌, List, [], ◌∷◌, length, All, Some, inl, inr, refl, arith}
 use Rattle.std.proofs.lemmas.List.Elements.{All-cons, All-head, All-nil, All-tail}
 use Rattle.mas_types.specs.declared.commands.Command.{Command}
-use Rattle.mas_types.specs.declared.commands.Command.TheVariants as command
 use Rattle.mas_types.specs.declared.ids.MemberId.{MemberId}
 use Rattle.mas_types.specs.declared.queues.Queue.{Queue}
 use Rattle.mas_types.specs.Fit.{IsConfig, IsFit}
 use Rattle.mas_types.specs.Ids.{same_member}
-use Rattle.mas_types.specs.Limits.{members_most, steps_most}
+use Rattle.mas_types.specs.Limits.{steps_most}
 use Rattle.mas_types.specs.Queue.{is_member}
-use Rattle.mas_types.specs.Step.{may_give}
 use Rattle.card_reader.specs.Decks.{job_seen_in, nothing_seen, refused_card, seen_after}
 use Rattle.card_reader.specs.Statements.{cards_to_end, items_of}
 use Rattle.card_reader.proofs.Fields.{fields_fit, least-ok}
 use Rattle.card_reader.proofs.Refusals.{cards_fit}
 use Rattle.lock_cycle.specs.Books.{Book, is_stopped}
-use Rattle.paper_laws.specs.Counts.{is_mark}
-use Rattle.queue_commands.specs.Given.{IsGiver, is_plain}
-use Rattle.script_input.specs.Commands.{is_typed}
 use Rattle.script_input.specs.Played.{IsPlayed, MayBeRaced, may_ask}
 use Rattle.script_lang.specs.declared.types.Ask.{Ask}
 use Rattle.script_lang.specs.declared.types.Ask.TheVariants as ask
@@ -26,52 +21,18 @@ use Rattle.script_laws.specs.Grammar.{MayRace}
 use Rattle.script_laws.specs.Limits.{IsAsk}
 use Rattle.step_turns.specs.declared.states.Task.TheVariants.{Deck, Work}
 use Rattle.run_turns.specs.Admissions.{Admission, resets}
-use Rattle.member_sittings.specs.Whole.{IsGivable}
 use Rattle.race_turns.specs.Races.{Asked, if_asked, is_raced, lines_of}
+use Rattle.run_opening.proofs.TypedLemmas.{reset_givable, typed_givable}
 use Rattle.member_racing.specs.Asked.{IsAsked, IsDown, IsKnown, IsRaced}
-use Rattle.run_turns.proofs.Comes.{ArmCame, Comes, CommandCame, DeckCame, FreeCame, LineCame, LockCame, LossCame, NoMember, NotGranted, ReplaceCame, ResetCame, SaysNo, StillUp, StopCame, TakeoverCame, WorkCame, comes, few_of, some_of}
+use Rattle.run_turns.proofs.Comes.{ArmCame, Comes, CommandCame, DeckCame, FreeCame, LineCame, LockCame, LossCame, NoMember, NotGranted, ReplaceCame, ResetCame, SaysNo, StillUp, StopCame, TakeoverCame, WorkCame, comes, few_of}
 use Rattle.race_run.specs.Racing.{AreAsked, plays}
 
--- A COMMAND that a script may give
-
-typed_plain : (c : Command) → is_typed c ≡ true → is_plain c ≡ true
-typed_plain (command.Enter job text) is = absurd (cc)
-typed_plain (command.Ended job specs) is = absurd (cc)
-typed_plain (command.Load line) is = absurd (cc)
-typed_plain (command.Sent line number) is = absurd (cc)
-typed_plain (command.Got line number job text) is = absurd (cc)
-typed_plain _ is = refl
-
-typed_unmarked : (c : Command) → is_typed c ≡ true → is_mark c ≡ false
-typed_unmarked (command.Mark job index at) is = absurd (cc)
-typed_unmarked _ is = refl
-
-typed_giver : (by : MemberId) (c : Command) → is_typed c ≡ true → (1 ≤ by.0) × (by.0 ≤ members_most) → IsGiver by c
-typed_giver by command.Restart is some = absurd (cc)
-typed_giver by _ is some = some
-
-typed_may : (Q : Queue) (by : MemberId) (c : Command) → is_typed c ≡ true → is_member Q.config by ≡ true → may_give Q by c ≡ true
-typed_may Q by command.Restart is member = absurd (cc)
-typed_may Q by _ is member = member
-
 module _ (Q : Queue) (by : MemberId) (config : IsConfig Q.config) (member : is_member Q.config by ≡ true) where
-  givable : (c : Command) → IsFit c → is_typed c ≡ true → IsGivable Q by c
-  givable c fit is = record {
-    plain = typed_plain c is;
-    fit = fit;
-    giver = typed_giver by c is (some_of Q.config by member, few_of Q.config by member config);
-    may = typed_may Q by c is member;
-    unmarked = typed_unmarked c is;
-  }
-
   -- BY ITS ADMISSION
 
   module _ (b : Book) where
     down_of : (c : Command) (of : MemberId) → resets c ≡ Some of → is_member Q.config of ≡ true → is_stopped b of ≡ true → IsFit c → IsDown Q b by of
-    down_of c of so some down fit = record { member = some; down = down; few = few_of Q.config of some config; givable = givable (command.Reset of) (subst IsFit (reset_of c so) fit) refl } where
-      reset_of : (c : Command) → resets c ≡ Some of → c ≡ command.Reset of
-      reset_of (command.Reset m) is = let same : m ≡ of = cc in ap (λ (k : MemberId). command.Reset k) same
-      reset_of _ is = absurd (cc)
+    down_of c of so some down fit = record { member = some; down = down; few = few_of Q.config of some config; givable = reset_givable Q by config member c of so fit }
 
     known_by : {what : Ask} {a : Admission} → Comes Q.config b by what a → IsAsk what → may_ask what ≡ true → MayRace what → is_raced what ≡ true → IsKnown Q b by a
     known_by (NoMember end named) fits may race raced = (inl refl, named)
@@ -81,7 +42,7 @@ module _ (Q : Queue) (by : MemberId) (config : IsConfig Q.config) (member : is_m
     known_by (DeckCame cards fields got read) fits may race raced =
         let none = (least-ok (refused_card 1 (cards_to_end 0 cards + 1) cards) (job_seen_in (seen_after Q.config.node nothing_seen (items_of cards))) fields read).0 in
         (got.is_up, got.none, (fields_fit Q.config.node cards fields config.node read, cards_fit (cards_to_end 0 cards) (cards_to_end 0 cards + 1) cards none), refl, refl)
-    known_by (CommandCame c got none) fits may race raced = (got.is_up, got.none, givable c fits may, refl, none)
+    known_by (CommandCame c got none) fits may race raced = (got.is_up, got.none, typed_givable Q by config member c fits may, refl, none)
     known_by (ResetCame c of got so some down) fits may race raced = (got.is_up, got.none, down_of c of so some down fits)
     known_by (TakeoverCame c of up so some down holds) fits may race raced = (up, holds, down_of c of so some down fits)
     known_by (WorkCame n got) fits may race raced = (got.is_up, got.none, fits.1, refl, refl)

@@ -1,10 +1,9 @@
 -- The members of a run that is open can begin, once the operator has refused lines of members that are none.
-use Rattle.std.proofs.Common.{◌≡◌, ◌∙◌, ◌+◌, ◌-◌, ◌<◌, ◌≤◌, ◌*◌, ◌==◌, ◌&&◌, not, nat_le, ℕ, zero, suc, Bool, true, false, if◌then◌else◌, List, [], ◌∷◌, ◌++◌, length, map, take, drop, replicate, All, append-nil, Option, None, Ok, slice_index_or, refl, sym, ap, subst, arith}
+use Rattle.std.proofs.Common.{◌≡◌, ◌∙◌, ◌+◌, ◌-◌, ◌<◌, ◌≤◌, ◌==◌, ◌&&◌, not, nat_le, ℕ, zero, suc, Bool, true, false, if◌then◌else◌, List, [], ◌∷◌, ◌++◌, length, map, take, drop, replicate, All, append-nil, Option, None, Ok, slice_index_or, refl, sym, ap, subst, arith}
 use Rattle.std.proofs.lemmas.Bool.{le-leb, ne_eqb}
 use Rattle.std.proofs.lemmas.List.{drop_all, take_all}
 use Rattle.std.proofs.lemmas.List.Elements.{All-cons, All-head, All-nil, All-tail, All-weaker}
 use Rattle.mas_types.specs.declared.ids.Dev.{Dev}
-use Rattle.mas_types.specs.declared.ids.Dev.TheVariants.{Ckpt1, Ckpt2, Spool}
 use Rattle.mas_types.specs.declared.ids.MemberId.{MemberId}
 use Rattle.mas_types.specs.declared.journals.Batch.{Batch}
 use Rattle.mas_types.specs.declared.journals.Entry.{Entry}
@@ -13,11 +12,12 @@ use Rattle.mas_types.specs.declared.queues.Owner.{Owner}
 use Rattle.mas_types.specs.Fit.{IsConfig}
 use Rattle.mas_types.specs.Ids.{is_somebody, nobody, same_member}
 use Rattle.mas_types.specs.Journal.{is_flying, is_kept}
-use Rattle.mas_types.specs.Limits.{page_bytes, steps_most}
+use Rattle.mas_types.specs.Limits.{steps_most}
 use Rattle.mas_types.specs.Queue.{is_member}
 use Rattle.mas_types.specs.Sound.{IsSound}
 use Rattle.lock_cycle.specs.Books.{Book, beginner, is_stopped, new_book}
 use Rattle.queue_laws.proofs.RunLaws.{runs_keep_configuration}
+use Rattle.run_opening.proofs.QuietLemmas.{quiet_on}
 use Rattle.script_input.specs.Played.{IsPlayed, MayBeRaced}
 use Rattle.script_lang.specs.declared.types.Step.{Step}
 use Rattle.spool_plant.specs.declared.plant.Plant.{Ghosts as PlantGhosts}
@@ -33,7 +33,6 @@ use Rattle.mas_complex.specs.Meaning.{Closes, run}
 use Rattle.mas_complex.specs.Parts.{Parts, Shown, parts_of, shows}
 use Rattle.mas_complex.specs.Past.{noted_by}
 use Rattle.mas_complex.specs.Renewals.{no_renewals}
-use Rattle.mas_complex.proofs.Batches.{settled_later}
 use Rattle.gate_facts.specs.declared.desks.Desk.{Desk}
 use Rattle.gate_facts.specs.Memory.{EachOf}
 use Rattle.gate_facts.specs.Values.{no_desk}
@@ -210,23 +209,7 @@ module _ {P C : Type 0} {plants : PlantGhosts P} {steadies : SteadyGhosts C} {co
   quiet = between.quiet (ap (λ (m : MemberId). is_somebody m && is_stopped x.book m) free)
 
   quiet_then : IsQuiet plants copies q (page_count x.base.config)
-  quiet_then = record {
-    none = quiet.none;
-    unplaced = quiet.unplaced;
-    unreserved = quiet.unreserved;
-    first = record {
-      calm = quiet.first.calm;
-      low = λ t on pages u sized reads spelled. quiet.first.low t on pages u sized (ap (λ (k : Disk). copies.reads k.bytes) (sym (done.disks t Ckpt1)) ∙ reads) spelled;
-    };
-    second = record {
-      calm = quiet.second.calm;
-      low = λ t on pages u sized reads spelled. quiet.second.low t on pages u sized (ap (λ (k : Disk). copies.reads k.bytes) (sym (done.disks t Ckpt2)) ∙ reads) spelled;
-    };
-    sound = quiet.sound;
-    kept = settled_later x.journal.batches v.now w.now quiet.kept done.goes.later;
-    begun = (let begun = quiet.begun in let later = done.goes.later in omega (arith, begun, later));
-    roomy = λ t n one most there. subst (λ (k : ℕ). page_bytes * x.base.config.groups ≤ k) (sym (done.goes.size (Spool n))) (quiet.roomy t n one most (sym (done.lost (Spool n)) ∙ there));
-  }
+  quiet_then = quiet_on plants copies p y.plant p.first_alive p.second_alive p.first_found p.second_found done.goes (λ on. on) (λ on. on) (λ t d. ap (λ (k : Disk). k.bytes) (done.disks t d)) (page_count x.base.config) quiet
 
   rest : IsBetweenTurns plants copies q
   rest = rest_quiet plants copies q quiet_then between.booked

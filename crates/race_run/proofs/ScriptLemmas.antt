@@ -1,5 +1,5 @@
 -- The lines of a member one after another, by what its pass remembers.
-use Rattle.std.proofs.Common.{◌≡◌, ◌∙◌, ℕ, zero, suc, ◌+◌, ◌≤◌, ◌<◌, Bool, true, false, List, [], ◌∷◌, ◌++◌, drop, drop-cons, get_or, length, Ok, Err, refl, sym, ap, subst, arith}
+use Rattle.std.proofs.Common.{◌≡◌, ◌∙◌, ℕ, zero, suc, ◌+◌, ◌≤◌, Bool, true, false, List, [], ◌∷◌, ◌++◌, Ok, Err, refl, sym, ap, subst, arith}
 use Rattle.std.specs.Prelude.{All}
 use Rattle.mas_types.specs.declared.ids.MemberId.{MemberId}
 use Rattle.mas_types.specs.declared.queues.Queue.{Queue}
@@ -124,9 +124,3 @@ all_closed base by entry was is at h = record {
 pub lines_then : (by : MemberId) (at : ℕ) (lines more : List Step) (s : Step) → lines ≡ s ∷ more
     → lines_of by at lines ≡ if_asked (plays by s) (asked_at at s.what) (lines_of by (at + 1) more)
 lines_then by at lines more s is = ap (lines_of by at) is
-
--- the line of an index, and those after it
-pub line_next : (lines : List Step) (k : ℕ) (line : Step) → k < length lines → line ≡ get_or lines k line → drop k lines ≡ line ∷ drop (k + 1) lines
-line_next lines k line lt is =
-    let e : suc k ≡ k + 1 = omega arith in
-    drop-cons lines k line lt ∙ ap (λ (s : Step). s ∷ drop (suc k) lines) (sym is) ∙ ap (λ (n : ℕ). line ∷ drop n lines) e

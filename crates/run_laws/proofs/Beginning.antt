@@ -43,7 +43,7 @@ use Rattle.warm_start.specs.Starting.{IsSmall, IsState, AreNotLost, OnlyLookedAt
 use Rattle.start_choice.specs.Usable.{AreOf, AreUsable, HaveSize, MayStart}
 use Rattle.run_opening.specs.Lines.{Proceeds, StaysLost}
 use Rattle.run_opening.specs.Runs.{has_begun, Begins}
-use Rattle.mas_run.specs.Runs.{IsRun}
+use Rattle.mas_run.specs.Runs.{IsRun, run_result}
 use Rattle.run_opening.specs.Statuses.{IsCaused}
 use Rattle.run_opening.specs.Unstarted.{IsNotStarted, StartCauses}
 use Rattle.run_laws.specs.Left.{IsLeftBy}
@@ -277,7 +277,7 @@ bounds2 l order since J last rs levels few b t ge le good = record {
 -- what a warm run that hasn't begun is hindered by
 pub hinders : SpellsOneAtMost → RunsKeepConfiguration → RunsKeepSound → (first_tells next_tells : Type 0) → first_tells → next_tells
     → (cold : Bool) (script : Script) (answer ends : Status) (base found : Queue) (J : Journal) (since t : ℕ) (first last old new : View)
-    → (was : IsRun cold first_tells script answer base J since first last) → since ≤ t → t ≤ last.now → IsLeftBy t last old
+    → (was : IsRun cold first_tells script first (run_result answer base J since last)) → since ≤ t → t ≤ last.now → IsLeftBy t last old
     → AreGoodLeft was.steps.renewals t (level_of was) (order_of was) since false old new
     → BothLow (level_of was) (order_of was) since old → AreLarge base.config old → HasEnded next_tells ends found old new → has_begun found ≡ false → IsHindered ends old new
 hinders spells configs sounds first_tells next_tells told also cold script answer ends base found J since t first last old new was ge le left good low large ended e =
@@ -305,7 +305,7 @@ hinders spells configs sounds first_tells next_tells told also cold script answe
     bounded : (A : Type 0) → ((is_renewed_at was.steps.renewals.first t ≡ false → AreBounded (level_of was) (order_of was) since (left_at last t Ckpt1))
         → (is_renewed_at was.steps.renewals.second t ≡ false → AreBounded (level_of was) (order_of was) since (left_at last t Ckpt2)) → A → ⊥) → A → ⊥
     bounded A clash a =
-        let b = first_there cold first_tells script answer base J since first last was told in
+        let b = first_there cold first_tells script first (run_result answer base J since last) was told in
         let few = was.steps.safe.few told in
         ∥∥₁_elim (was.steps.safe.levels told) (λ x y. absurd x) (λ (levels : AreLevelsLow form_reads since J was.steps.renewals last).
         clash (bounds1 (level_of was) (order_of was) since J last was.steps.renewals levels few b t ge le) (bounds2 (level_of was) (order_of was) since J last was.steps.renewals levels few b t ge le) a)
@@ -317,11 +317,11 @@ hinders spells configs sounds first_tells next_tells told also cold script answe
         let same = same_bytes next_tells also old new (not_lost ((new ≡ old) ⊎ (next_tells → OnlyLookedAtAll old new)) one two looked) in
         never (StartCauses next_tells (no_start.NotFormatted one two) old new)
         (λ given alike. bounded (StartCauses next_tells (no_start.NotFormatted one two) old new)
-        (λ bound1 bound2 causes. some_found spells configs sounds l order since base J rs t last old left was.sound given bound1 bound2 alike new low large ended.goes stays good next_tells also same.0 same.1 one two causes)) why
+        (λ bound1 bound2 causes. some_found spells configs sounds l order since base J rs t last old left was.begun.sound given bound1 bound2 alike new low large ended.goes stays good next_tells also same.0 same.1 one two causes)) why
     hindered (status.DeviceSize dev size) begun why looked cause none =
         never (StartCauses next_tells (no_start.DeviceSize dev size) old new)
         (λ given alike. bounded (StartCauses next_tells (no_start.DeviceSize dev size) old new)
-        (λ bound1 bound2 causes. none_small spells configs sounds l order since base J rs t last old left was.sound given bound1 bound2 alike new low large ended.goes stays good next_tells also dev size causes)) why
+        (λ bound1 bound2 causes. none_small spells configs sounds l order since base J rs t last old left was.begun.sound given bound1 bound2 alike new low large ended.goes stays good next_tells also dev size causes)) why
     hindered status.BothLost begun why looked cause none = (cause.failed1 refl, cause.failed2 refl, why.0.failed)
     hindered status.Words begun why looked cause none = tt
     hindered (status.BadLine line cause) begun why looked caused none = tt

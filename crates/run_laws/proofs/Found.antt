@@ -34,7 +34,7 @@ use Rattle.mas_complex.specs.Meaning.{run}
 use Rattle.mas_complex.specs.Texts.{Spools, bytes_on, lost_now, spools_at, IsThereUnless, HasTexts, GivesTexts}
 use Rattle.run_opening.specs.Lines.{Proceeds}
 use Rattle.run_opening.specs.Runs.{has_begun, as_found, IsFoundQueue, begins_at}
-use Rattle.mas_run.specs.Runs.{IsRun}
+use Rattle.mas_run.specs.Runs.{IsRun, run_result}
 use Rattle.run_opening.specs.Volumes.{AreVolumesKeptUntil}
 use Rattle.run_laws.specs.Left.{IsLeftBy}
 use Rattle.run_laws.specs.Again.{IsQueueAgain}
@@ -120,18 +120,18 @@ module _ (spells : SpellsOneAtMost) (runs : RunsKeepConfiguration) (sounds : Run
 -- a run that has begun
 finds : SpellsOneAtMost → RunsKeepConfiguration → RunsKeepSound → (first_tells next_tells : Type 0) → first_tells → next_tells
     → (cold : Bool) (script next : Script) (answer ends : Status) (base found : Queue) (J K : Journal) (since from t : ℕ) (first last old new : View)
-    → (was : IsRun cold first_tells script answer base J since first last) → since ≤ t → t ≤ last.now → IsLeftBy t last old → AreGoodLeft was.steps.renewals t (level_of was) (order_of was) since true old new
-    → Proceeds old new → IsRun false next_tells next ends found K from old new → ∥ IsQueueOf (lost_in last new) base J t found ∥₁
+    → (was : IsRun cold first_tells script first (run_result answer base J since last)) → since ≤ t → t ≤ last.now → IsLeftBy t last old → AreGoodLeft was.steps.renewals t (level_of was) (order_of was) since true old new
+    → Proceeds old new → IsRun false next_tells next old (run_result ends found K from new) → ∥ IsQueueOf (lost_in last new) base J t found ∥₁
 finds spells runs sounds first_tells next_tells told also cold script next answer ends base found J K since from t first last old new was ge le left good goes is =
     let safe = was.steps.safe in
     let kept = is.steps.before also in
-    let starts = first_there cold first_tells script answer base J since first last was told in
+    let starts = first_there cold first_tells script first (run_result answer base J since last) was told in
     let rs = was.steps.renewals in
     let stand : ∥ AreAlwaysAlike form_reads base J rs since last × AreTextsLeft base since J last ∥₁ = ∥∥₁_map₂ (safe.alike told) (safe.texts told) (λ alike texts. (alike, texts)) in
     let keep : ∥ PaperKept base since J.batches last × AreLevelsLow form_reads since J rs last ∥₁ = ∥∥₁_map₂ (safe.paper told) (safe.levels told) (λ paper levels. (paper, levels)) in
     ∥∥₁_map₂ stand keep
-    (λ a b. found_of spells runs sounds (level_of was) (order_of was) base J since t last old ge le left was.sound was.steps.renewals (safe.few told) starts a.0 a.1 b.0.given b.1
-    next_tells also found from is.steps.at is.first is.lost new goes good is.moment.0 is.steps.began.0 kept is.queue)
+    (λ a b. found_of spells runs sounds (level_of was) (order_of was) base J since t last old ge le left was.begun.sound was.steps.renewals (safe.few told) starts a.0 a.1 b.0.given b.1
+    next_tells also found from is.steps.at is.first is.lost new goes good is.begun.moment.0 is.steps.began.0 kept is.begun.queue)
 
 pub goes_on : SpellsOneAtMost → RunsKeepConfiguration → RunsKeepSound → (first_tells next_tells : Type 0) → FindsWhatIsLeft first_tells next_tells
 goes_on spells runs sounds first_tells next_tells told also cold script next answer ends base found J K since from t first last old new was ge le left good ended is =

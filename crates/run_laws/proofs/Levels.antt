@@ -1,9 +1,7 @@
 -- The levels and orders that a run leaves.
 use Rattle.std.proofs.Common.{◌≡◌, ⊎_elim, ℕ, ◌+◌, ◌*◌, ◌^◌, ◌≤◌, ◌<◌, Bool, true, false, List, length, Some, refl, sym, ◌∙◌, arith}
-use Rattle.mas_types.specs.declared.answers.Status.{Status}
 use Rattle.mas_types.specs.declared.ids.Dev.TheVariants.{Ckpt1, Ckpt2}
 use Rattle.mas_types.specs.declared.journals.Journal.{Journal}
-use Rattle.mas_types.specs.declared.queues.Queue.{Queue}
 use Rattle.script_lang.specs.declared.types.Script.{Script}
 use Rattle.spool_plant.specs.Acts.{top}
 use Rattle.spool_plant.specs.View.{View, Disk, IsImage, LeavesOnly, disk_at}
@@ -17,7 +15,7 @@ use Rattle.mas_complex.specs.Headline.{AreLevelsLow}
 use Rattle.mas_complex.specs.Journals.{batches_kept, journal_most}
 use Rattle.mas_complex.proofs.Found.{order_spelled}
 use Rattle.mas_complex.proofs.Present.{kept_fewer}
-use Rattle.mas_run.specs.Runs.{IsRun}
+use Rattle.mas_run.specs.Runs.{IsRun, RunResult}
 use Rattle.run_opening.specs.Runs.{OneReadsThere, as_found}
 use Rattle.run_laws.specs.Beginning.{level_first, order_first}
 
@@ -39,17 +37,17 @@ pub record Begins (l order since : ℕ) (last : View) : Type 0 where
   pub at_order : next_order found ≡ order
   pub there : OneReadsThere found since last
 
-pub first_there : (cold : Bool) (tells : Type 0) (script : Script) (answer : Status) (base : Queue) (J : Journal) (since : ℕ) (first last : View) → (was : IsRun cold tells script answer base J since first last) → tells
-    → Begins (level_first cold tells script first (as_found was.lost last) since was.first base was.queue) (order_first cold tells script first (as_found was.lost last) since was.first base was.queue) since last
-first_there true tells script answer base J since first last was told =
-    let f = was.formatted refl told in
+pub first_there : (cold : Bool) (tells : Type 0) (script : Script) (first : View) (end : RunResult) → (was : IsRun cold tells script first end) → tells
+    → Begins (level_first cold tells script first (as_found was.lost end.view) end.since was.first end.base was.begun.queue) (order_first cold tells script first (as_found was.lost end.view) end.since was.first end.base was.begun.queue) end.since end.view
+first_there true tells script first end was told =
+    let f = was.begun.formatted refl told in
     record {
       found = bytes_of f.pages;
       at_level = f.at_level;
       at_order = order_spelled (empty_tables script.config script.routes) f.spell.levels f.pages f.spell.fit f.spell.spell f.sized ∙ f.next_order;
       there = f.there;
     }
-first_there false tells script answer base J since first last was told = record { found = bytes_of was.queue.pages; at_level = refl; at_order = refl; there = was.queue.there told }
+first_there false tells script first end was told = record { found = bytes_of was.begun.queue.pages; at_level = refl; at_order = refl; there = was.begun.queue.there told }
 
 module _ (since : ℕ) (J : Journal) (last : View) (rs : Renewals) (levels : AreLevelsLow form_reads since J rs last) (few : length J.batches ≤ journal_most) (l order : ℕ) (b : Begins l order since last) (before : since < top) where
   -- a device that isn't lost has its own bytes as an image

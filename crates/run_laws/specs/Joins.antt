@@ -9,7 +9,7 @@ use Rattle.spool_plant.specs.View.{View}
 use Rattle.mas_complex.specs.Meaning.{run}
 use Rattle.mas_complex.specs.Texts.{lost_now}
 use Rattle.run_opening.specs.Runs.{has_begun, as_found}
-use Rattle.mas_run.specs.Runs.{IsRun}
+use Rattle.mas_run.specs.Runs.{IsRun, RunResult, run_result}
 use Rattle.run_laws.specs.Left.{IsLeftBy}
 use Rattle.run_laws.specs.Again.{IsQueueAgain}
 use Rattle.run_laws.specs.Beginning.{level_first, order_first, AreGoodLeft, AreLarge, BothLow, HasEnded, IsHindered}
@@ -32,15 +32,15 @@ GoesOn l order since base J t last ends found old new =
     ⊎ ((has_begun found ≡ false) × (BothLow l order since old → AreLarge base.config old → IsHindered ends old new))
 
 -- the level and the next order with which a run began
-abbrev pub level_of : {cold : Bool} {tells : Type 0} {script : Script} {answer : Status} {base : Queue} {J : Journal}
-    {since : ℕ} {old new : View} → IsRun cold tells script answer base J since old new → ℕ
-level_of {cold} {tells} {script} {answer} {base} {J} {since} {old} {new} was =
-    level_first cold tells script old (as_found was.lost new) since was.first base was.queue
+abbrev pub level_of : {cold : Bool} {tells : Type 0} {script : Script} {old : View} {end : RunResult}
+    → IsRun cold tells script old end → ℕ
+level_of {cold} {tells} {script} {old} {end} was =
+    level_first cold tells script old (as_found was.lost end.view) end.since was.first end.base was.begun.queue
 
-abbrev pub order_of : {cold : Bool} {tells : Type 0} {script : Script} {answer : Status} {base : Queue} {J : Journal}
-    {since : ℕ} {old new : View} → IsRun cold tells script answer base J since old new → ℕ
-order_of {cold} {tells} {script} {answer} {base} {J} {since} {old} {new} was =
-    order_first cold tells script old (as_found was.lost new) since was.first base was.queue
+abbrev pub order_of : {cold : Bool} {tells : Type 0} {script : Script} {old : View} {end : RunResult}
+    → IsRun cold tells script old end → ℕ
+order_of {cold} {tells} {script} {old} {end} was =
+    order_first cold tells script old (as_found was.lost end.view) end.since was.first end.base was.begun.queue
 
 -- A run was played, cold or warm, and at a moment of it a crash left what a plant shows. A warm run on that plant goes
 -- on so, whatever its contract says of it, where beside each copy that was being replaced then a good one is left.
@@ -49,9 +49,9 @@ FindsWhatIsLeft first_tells next_tells =
     first_tells → next_tells
     → (cold : Bool) (script next : Script) (answer ends : Status) (base found : Queue) (J K : Journal)
     (since from t : ℕ) (first last old new : View)
-    → (was : IsRun cold first_tells script answer base J since first last) → since ≤ t → t ≤ last.now
+    → (was : IsRun cold first_tells script first (run_result answer base J since last)) → since ≤ t → t ≤ last.now
     → IsLeftBy t last old
     → AreGoodLeft was.steps.renewals t (level_of was) (order_of was) since (has_begun found) old new
     → HasEnded next_tells ends found old new
-    → (has_begun found ≡ true → IsRun false next_tells next ends found K from old new)
+    → (has_begun found ≡ true → IsRun false next_tells next old (run_result ends found K from new))
     → GoesOn (level_of was) (order_of was) since base J t last ends found old new

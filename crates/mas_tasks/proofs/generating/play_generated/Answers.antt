@@ -3,6 +3,7 @@ use Rattle.mas_types.specs.declared.answers.Status.{Status}
 use Rattle.mas_types.specs.declared.answers.Status.TheVariants as status
 use Rattle.gen_work.specs.Summaries.{summary_line, summary_of}
 use Rattle.mas_run.specs.Refusals.{IsSaid}
+use Rattle.mas_run.specs.Runs.{run_result}
 use Rattle.run_opening.specs.Runs.{Begins, has_begun}
 use Rattle.run_opening.specs.Statuses.{is_unplayed}
 use Rattle.run_opening.proofs.ProceedLemmas.{proceeds_none, proceeds_on}
@@ -163,7 +164,7 @@ returns-clause-generated g c =
       between = mid;
       played = played;
       summed = not_summed P.tells line r.status mid c.in_default.not-Done;
-      safe = λ b low. whole_safe P.tells (e.run b).0 r.base r.journal r.since r.status old mid (e.run b).2
+      safe = λ b low. whole_safe P.tells (e.run b).0 old (run_result r.status r.base r.journal r.since mid) (e.run b).2
           (generated_renews c.args.decks (e.run b).0 c.law_of_generated_scripts.ensures.plays c.requires (subst (λ (left : List ℕ). IsSaid true false left (e.run b).0) c.in-Ok.ensures ((e.run b).1 tt)));
       complete = λ large calm. played.complete tt (refusal_generated c.args.decks old c.law_of_generated_scripts.ensures.plays c.requires large)
           (still_generated old mid mid (proceeds_none mid) (λ d. refl) P.tells c.args.decks c.law_of_generated_scripts.ensures.plays c.requires calm);

@@ -49,7 +49,7 @@ returns-in_default-clause-resets g c =
       is = λ t. sym (reset_sits Q h c.args.of);
       shaped = (reply_to Q h.by d, refl);
       own = all_of_one h.by h.step (e ∷ []) (one_of (e ∷ []) e h.by h.step refl refl refl);
-      sat = sat_none P h.by h Told lines (parts_of x) (e ∷ []) (none_out x.journal.batches x.journal.batches x.placed x.current refl b.unplaced b.none);
+      sat = sat_none P h Told lines (parts_of x) (e ∷ []) (omega arith) (none_out x.journal.batches x.journal.batches x.placed x.current refl b.unplaced b.none);
     }
 
 pub returns-in_default-one_line-clause-resets : goal.returns-in_default-one_line-clause-resets
@@ -67,7 +67,7 @@ returns-in_default-one_line-clause-resets g c =
       is = λ t. sym (reset_sits Q h c.args.of);
       shaped = (reply_to Q h.by d, refl);
       own = all_of_one h.by h.step (e ∷ []) (one_of (e ∷ []) e h.by h.step refl refl refl);
-      sat = sat_none P h.by h Told lines (parts_of x) (e ∷ []) (none_out x.journal.batches x.journal.batches x.placed x.current refl b.unplaced b.none);
+      sat = sat_none P h Told lines (parts_of x) (e ∷ []) (omega arith) (none_out x.journal.batches x.journal.batches x.placed x.current refl b.unplaced b.none);
     }
 
 pub last_reply-requires : goal.last_reply-requires

@@ -30,7 +30,8 @@ use Rattle.std.specs.Prelude.{IfOk}
 use Rattle.member_racing.specs.Waits.{IsAtEase}
 use Rattle.member_racing.proofs.Easing.{ease_as, ease_aside}
 use Rattle.member_racing.proofs.Members.{few_of, inside_of, some_of, somebody_of}
-use Rattle.member_racing.proofs.OpeningLemmas.{InArm, comes_closed, denied_holder, denied_left, denied_members, done_closed, few_raced, few_task, frame_on, goes_with, got_book, got_free, got_hold, got_may, if_closed, if_left, in_arm, left_some, not_holder, on_ok_as, said_ease, said_frame, sayer_of, tried_frame}
+use Rattle.member_resets.proofs.BookLemmas.{got_free}
+use Rattle.member_racing.proofs.OpeningLemmas.{InArm, comes_closed, denied_holder, denied_left, denied_members, done_closed, few_raced, few_task, frame_on, goes_with, got_book, got_hold, got_may, if_closed, if_left, in_arm, left_some, not_holder, on_ok_as, said_ease, said_frame, sayer_of, tried_frame}
 use Rattle.member_racing.proofs.Turns.{may_take, nobody_is, step_kept}
 use Rattle.member_racing.proofs.opening.open_turn.Goals as goal
 

@@ -45,7 +45,7 @@ returns-in_default-clause-gave g c =
       is = λ t. refl;
       shaped = (reply_to Q h.by d, refl);
       own = all_of_one h.by h.step (e ∷ []) (one_of (e ∷ []) e h.by h.step refl refl refl);
-      sat = sat_none P h.by h Told [] (parts_of x) (e ∷ []) (none_out x.journal.batches x.journal.batches x.placed x.current refl b.unplaced b.none);
+      sat = sat_none P h Told [] (parts_of x) (e ∷ []) (omega arith) (none_out x.journal.batches x.journal.batches x.placed x.current refl b.unplaced b.none);
     }
 
 pub end_sitting-requires : goal.end_sitting-requires

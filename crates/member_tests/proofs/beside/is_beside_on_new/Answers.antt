@@ -4,7 +4,6 @@ pub invariant_of-complex : goal.invariant_of-complex
 invariant_of-complex c =
     let x = c.is_beside_on.new.complex in record {
       kept = x.kept;
-      lasting = x.lasting;
       replied = x.replied;
       paper = x.paper;
       ready = x.ready;

@@ -6,7 +6,8 @@ use Rattle.script_lang.specs.declared.types.Step.{Step}
 use Rattle.race_turns.specs.Races.{Asked, lines_of, none}
 use Rattle.race_run.specs.Races.{seen_in}
 use Rattle.race_run.specs.Racing.{AreAsked, HasClosed, asked_at, plays}
-use Rattle.race_run.proofs.ScriptLemmas.{all_closed, asked_here, asked_later, line_next, lines_then, then_closed, then_ended}
+use Rattle.run_opening.proofs.LineLemmas.{line_next}
+use Rattle.race_run.proofs.ScriptLemmas.{all_closed, asked_here, asked_later, lines_then, then_closed, then_ended}
 use Rattle.race_run.proofs.lines.play_lines.Goals as goal
 
 pub loop-line-init : goal.loop-line-init
