@@ -1,8 +1,7 @@
 -- A journal at a moment, as it grows.
 pub use Rattle.paper_laws.proofs.Runs.{run_append}
-use Rattle.mas_complex.proofs.Names.{◌≡◌, ℕ, ◌≤◌, ◌<◌, ◌&&◌, ◌||◌, nat_le, nat_lt, Bool, true, false, if◌then◌else◌, List, [], ◌∷◌, ◌++◌, Option, Some, None, refl, subst, sym, ◌∙◌, ap, arith, append_assoc, nat_tests, append-nil, MemberId, Batch, Entry, Fate, Kept, Flying, kept, flying, kept_of, flying_of, kept_all, Account, account, turned, turned_last, max, in_flight, entries_in, AreSettled, IsBegun, StepIsKept, has_step, IsPlace, is_kept, is_flying, suc, ◌-◌, length, slice_set, le_trans, remove, journal_most, with_last, without_last, end_of, Dropped, Queue, EndsInPlace, HasPlace, StandFor, AreToldAlike, le_prop, length-append, IsSome, All, All-nil, ∥∥₁_elim, IsGiven, AreGivenIn, past_batches, min, Result, Ok, Err, OnOk, OnErr, ◌⊎◌, Act, ActHalted as Halted, top, entries_reserved, entries_most, AreFew, is_of_member, reserved_after_stop, reserved_by, inl, inr, run, HaveReplies, AreReplied, after_batch, All-cons, is_mark, MayBegin, counts_of, map, slice_get, list_any, same_member, begins_anew, counts_anew, BriefEntry, brief_command, brief_of, command_of, entry_of}
-use mathlib.Core.Bool.{and-false, and-true, or-true}
-use Rattle.mas_complex.proofs.Basics.{entries_set}
+use Rattle.mas_complex.proofs.Names.{◌≡◌, ℕ, ◌+◌, ◌≤◌, ◌<◌, ◌&&◌, ◌||◌, nat_le, nat_lt, Bool, true, false, if◌then◌else◌, List, [], ◌∷◌, ◌++◌, Option, Some, None, refl, subst, sym, ◌∙◌, ap, arith, append_assoc, nat_tests, append-nil, MemberId, Batch, Entry, Flying, kept, flying, kept_of, flying_of, kept_all, Account, account, turned, turned_last, max, in_flight, entries_in, AreSettled, IsBegun, StepIsKept, has_step, IsPlace, is_kept, is_flying, suc, zero, length, slice_set, le_trans, remove, journal_most, with_last, without_last, end_of, Dropped, Queue, EndsInPlace, HasPlace, StandFor, AreToldAlike, le_prop, length-append, IsSome, All, All-nil, ∥∥₁_elim, IsGiven, AreGivenIn, past_batches, Result, Ok, Err, OnOk, OnErr, ◌⊎◌, Act, ActHalted as Halted, entries_reserved, entries_most, AreFew, is_of_member, reserved_after_stop, reserved_by, inl, inr, run, AreReplied, after_batch, All-cons, is_mark, MayBegin, counts_of, map, slice_get, list_any, same_member, begins_anew, counts_anew, BriefEntry, brief_command, brief_of, command_of, entry_of, test_cases, and_parts, and-false, and-true, or-true}
+use Rattle.mas_complex.proofs.Basics.{entries_set, of_if}
 use Rattle.paper_laws.proofs.Plain.{plain_allowed}
 use Rattle.mas_types.specs.declared.commands.Command.{Command}
 use Rattle.mas_types.specs.declared.commands.Command.TheVariants as command
@@ -35,42 +34,28 @@ account_after (b ∷ js) xs ys t e = ap (account_more b t) (account_after js xs 
 
 -- a batch that begins later says nothing
 pub account_before : (b : Batch) (t : ℕ) → b.fate ≡ Flying → t < b.first → account (b ∷ []) t ≡ account [] t
-account_before b t flies lt =
-    let p : nat_le b.first t ≡ false = grind (arith, nat_tests) in
-    let k : kept (b ∷ []) t ≡ [] = rw flies refl in
-    let f : flying (b ∷ []) t ≡ [] = rw p refl in
-    let n : (m : MemberId) (since : ℕ) → turned m (b ∷ []) t since ≡ since = λ m since. rw (p, and-false (list_any (begins_anew m) b.entries)) refl in
-    λ i. (k i, f i, λ m since. n m since i)
+account_before b t flies lt = let p : nat_le b.first t ≡ false = grind (arith, nat_tests) in simp (flies, p, and-false)
 
 -- nor does one with another fate since a later moment say anything else
 pub account_fated : (b c : Batch) (t : ℕ) → b.fate ≡ Flying → c.first ≡ b.first → c.entries ≡ b.entries → t < c.last → account (c ∷ []) t ≡ account (b ∷ []) t
 account_fated b c t flies first entries lt =
     let p : nat_le c.last t ≡ false = grind (arith, nat_tests) in
     let q : nat_lt t c.last ≡ true = grind (arith, nat_tests) in
-    let k : kept (c ∷ []) t ≡ kept (b ∷ []) t = rw (p, and-false (is_kept c.fate), flies) refl in
-    let f : flying (c ∷ []) t ≡ flying (b ∷ []) t = rw (q, flies, or-true (nat_lt t b.last), first, entries) refl in
-    let n : (m : MemberId) (since : ℕ) → turned m (c ∷ []) t since ≡ turned m (b ∷ []) t since = λ m since. rw (first, entries) refl in
-    λ i. (k i, f i, λ m since. n m since i)
+    simp (p, q, flies, first, entries, and-false, or-true)
 
 -- what is said of each moment from now on
 pub account_now : (js : List Batch) (c : Option Batch) (now t : ℕ) → AreSettled js now → IsBegun c now → now ≤ t → account (js ++ in_flight c) t ≡ (kept_all js, entries_in c, λ m since. turned_last m (js ++ in_flight c) since)
 account_now [] None now t are begun le = refl
 account_now [] (Some b) now t are begun le =
     let p : nat_le b.first t ≡ true = grind (arith, nat_tests, begun.1) in
-    let k : kept (b ∷ []) t ≡ [] = rw begun.0 refl in
-    let f : flying (b ∷ []) t ≡ b.entries = rw (p, begun.0, or-true (nat_lt t b.last)) (append-nil b.entries) in
-    let n : (m : MemberId) (since : ℕ) → turned m (b ∷ []) t since ≡ turned_last m (b ∷ []) since = λ m since. rw (p, and-true (list_any (begins_anew m) b.entries)) refl in
-    λ i. (k i, f i, λ m since. n m since i)
+    let flies : b.fate ≡ Flying = begun.0 in
+    simp (p, flies, or-true, and-true, append-nil)
 account_now (b ∷ js) c now t are begun le =
     let p : nat_le b.first t ≡ true = grind (arith, nat_tests, are.1, are.2) in
     let q : nat_le b.last t ≡ true = grind (arith, nat_tests, are.2) in
     let r : nat_lt t b.last ≡ false = grind (arith, nat_tests, are.2) in
-    let K : List Entry = kept_all js in
-    let k : kept_of b t ++ K ≡ kept_all (b ∷ js) = rw (q, and-true (is_kept b.fate)) refl in
-    let f : flying_of b t ++ entries_in c ≡ entries_in c = rw (r, are.0, and-false (nat_le b.first t)) refl in
-    let n : (m : MemberId) (since : ℕ) → turned_last m (js ++ in_flight c) (if list_any (begins_anew m) b.entries && nat_le b.first t then max since b.first else since) ≡ turned_last m (b ∷ js ++ in_flight c) since
-    = λ m since. rw (p, and-true (list_any (begins_anew m) b.entries)) refl in
-    ap (account_more b t) (account_now js c now t are.3 begun le) ∙ (λ i. (k i, f i, λ m since. n m since i))
+    let fated : is_flying b.fate ≡ false = are.0 in
+    ap (account_more b t) (account_now js c now t are.3 begun le) ∙ simp (p, q, r, fated, and-true)
 
 pub turned_append : (m : MemberId) (xs ys : List Batch) (since : ℕ) → turned_last m (xs ++ ys) since ≡ turned_last m ys (turned_last m xs since)
 turned_append m [] ys since = refl
@@ -79,11 +64,8 @@ turned_append m (b ∷ xs) ys since = turned_append m xs ys (if list_any (begins
 -- members count since moments that are past
 pub turned_by : (m : MemberId) (J : List Batch) (t since : ℕ) → since ≤ t → turned m J t since ≤ t
 turned_by m [] t since le = le
-turned_by m (b ∷ bs) t since le = turned_by m bs t _ (by (list_any (begins_anew m) b.entries) (nat_le b.first t) refl) where
-  by : (a c : Bool) → nat_le b.first t ≡ c → (if a && c then max since b.first else since) ≤ t
-  by true true e = let first : b.first ≤ t = grind (arith, nat_tests) in omega arith
-  by true false e = le
-  by false _ e = le
+turned_by m (b ∷ bs) t since le = turned_by m bs t _ (of_if (λ (n : ℕ). n ≤ t) (list_any (begins_anew m) b.entries && nat_le b.first t) (max since b.first) since
+    (λ e. let first : b.first ≤ t = grind (arith, nat_tests, (and_parts (list_any (begins_anew m) b.entries) (nat_le b.first t) e).1) in omega arith) (λ _. le))
 
 pub turned_past : (m : MemberId) (js : List Batch) (c : Option Batch) (now since : ℕ) → AreSettled js now → IsBegun c now → since ≤ now → turned_last m (js ++ in_flight c) since ≤ now
 turned_past m js c now since are begun le = subst (λ (n : ℕ). n ≤ now) (ap (λ (s : Account). s.2 m since) (account_now js c now now are begun (omega arith))) (turned_by m (js ++ in_flight c) now since le)
@@ -103,13 +85,8 @@ step_fate [] b c t m s fate entries kept =
 step_fate (a ∷ js) b c t m s fate entries kept = (kept.0, step_fate js b c t m s fate entries kept.1)
 
 -- the place of a batch to come adds nothing
-module _ (b : Batch) (place : IsPlace b) where
-  pub placed_all : (js : List Batch) → kept_all (js ++ b ∷ []) ≡ kept_all js
-  placed_all js =
-      kept_all_append js (b ∷ []) ∙ ap (λ f. kept_all js ++ ((if is_kept f then b.entries else []) ++ [])) place.dropped ∙ append-nil (kept_all js)
-
-  pub placed_settled : (js : List Batch) (now : ℕ) → AreSettled js now → b.first ≤ b.last → b.last ≤ now → AreSettled (js ++ b ∷ []) now
-  placed_settled js now are ends past = settled_push js b now are (ap is_flying place.dropped) ends past
+pub placed_all : (b : Batch) → IsPlace b → (js : List Batch) → kept_all (js ++ b ∷ []) ≡ kept_all js
+placed_all b place js = rw (kept_all_append js (b ∷ []), place.dropped) (append-nil (kept_all js))
 
 pub unplaced_settled : (js : List Batch) (b : Batch) (now : ℕ) → AreSettled (js ++ b ∷ []) now → AreSettled js now
 unplaced_settled [] b now are = tt
@@ -117,21 +94,15 @@ unplaced_settled (a ∷ js) b now are = (are.0, are.1, are.2, unplaced_settled j
 
 -- The end of a journal is written.
 
-set_at : (x b : Batch) (bs : List Batch) → slice_set (b ∷ bs) (length bs) x ≡ with_last x (b ∷ bs)
-set_at x b [] = refl
-set_at x b (next ∷ bs) = ap (λ (ys : List Batch). b ∷ ys) (set_at x next bs)
+pub last_put : (x : Batch) (bs : List Batch) (n : ℕ) → n + 1 ≡ length bs → slice_set bs n x ≡ with_last x bs
+last_put x (b ∷ []) zero last = refl
+last_put x (b ∷ next ∷ bs) (suc n) last = ap (λ (ys : List Batch). b ∷ ys) (last_put x (next ∷ bs) n (omega arith))
+last_put x _ n last = absurd (omega arith)
 
-pub last_put : (x : Batch) (bs : List Batch) → 0 < length bs → slice_set bs (length bs - 1) x ≡ with_last x bs
-last_put x [] some = absurd (omega arith)
-last_put x (b ∷ bs) some = let e : length (b ∷ bs) - 1 ≡ length bs = omega arith in rw e (set_at x b bs)
-
-remove_at : (b : Batch) (bs : List Batch) → remove (b ∷ bs) (length bs) ≡ without_last (b ∷ bs)
-remove_at b [] = refl
-remove_at b (next ∷ bs) = ap (λ (ys : List Batch). b ∷ ys) (remove_at next bs)
-
-pub last_removed : (bs : List Batch) → 0 < length bs → remove bs (length bs - 1) ≡ without_last bs
-last_removed [] some = absurd (omega arith)
-last_removed (b ∷ bs) some = let e : length (b ∷ bs) - 1 ≡ length bs = omega arith in rw e (remove_at b bs)
+pub last_removed : (bs : List Batch) (n : ℕ) → n + 1 ≡ length bs → remove bs n ≡ without_last bs
+last_removed (b ∷ []) zero last = refl
+last_removed (b ∷ next ∷ bs) (suc n) last = ap (λ (ys : List Batch). b ∷ ys) (last_removed (next ∷ bs) n (omega arith))
+last_removed _ n last = absurd (omega arith)
 
 pub with_last-append : (x : Batch) (bs : List Batch) (b : Batch) → with_last x (bs ++ b ∷ []) ≡ bs ++ x ∷ []
 with_last-append x (a ∷ next ∷ bs) b = ap (λ (ys : List Batch). a ∷ ys) (with_last-append x (next ∷ bs) b)
@@ -150,21 +121,16 @@ pub few_with_last : (b : Batch) (js : List Batch) → length js ≤ journal_most
 few_with_last b js few = subst (λ (n : ℕ). n ≤ journal_most) (sym (as_many b js)) few
 
 -- nor has a journal more at its end
+without_one : (l : List Batch) → (length (without_last l) ≤ length l) × (length l ≤ length (without_last l) + 1)
+without_one (a ∷ next ∷ l) = let one = without_one (next ∷ l) in (omega (arith, one.0), omega (arith, one.1))
+without_one _ = (omega arith, omega arith)
+
 pub few_at_end : (placed : Bool) (c : Option Batch) (js : List Batch) → length js ≤ journal_most → length (end_of placed c js) ≤ journal_most
 few_at_end placed (Some b) js few = few_with_last b js few
 few_at_end false None js few = few
-few_at_end true None js few = le_trans (fewer js) few
-  where
-    fewer : (l : List Batch) → length (without_last l) ≤ length l
-    fewer [] = omega arith
-    fewer (a ∷ []) = omega arith
-    fewer (a ∷ next ∷ l) = let le = fewer (next ∷ l) in omega (arith, le)
+few_at_end true None js few = le_trans (without_one js).0 few
 
 -- A batch takes its place in the journal.
-
-pub has_ends : (placed : Bool) (J : List Batch) → placed ≡ true → HasPlace placed J → EndsInPlace J
-has_ends true J e has = has
-has_ends false J e has = absurd (cc)
 
 pub is_place : (b : Batch) (now : ℕ) (by : MemberId) → b ≡ record { first = now; last = now; by = by; fate = Dropped; entries = [] } → IsPlace b × (b.first ≤ b.last) × (b.last ≤ now)
 is_place b now by e = subst (λ (x : Batch). IsPlace x × (x.first ≤ x.last) × (x.last ≤ now)) (sym e) (record { empty = refl; dropped = refl }, omega arith, omega arith)
@@ -186,11 +152,8 @@ takes_place c [] some = absurd (omega arith)
 takes_place c (a ∷ []) some = refl
 takes_place c (a ∷ next ∷ J) some = ap (λ (l : List Batch). a ∷ l) (takes_place c (next ∷ J) (omega arith))
 
-some_placed : (J : List Batch) → EndsInPlace J → 0 < length J
-some_placed J p = let e : length J ≡ length (p.before ++ p.place ∷ []) = ap length p.is in omega (arith, e, length-append p.before (p.place ∷ []))
-
 pub fated_past : (c : Batch) (placed : Bool) (J : List Batch) → placed ≡ true → ∥ HasPlace placed J ∥₁ → past_batches placed J ++ c ∷ [] ≡ with_last c J
-fated_past c true J is has = takes_place c J (∥∥₁_elim has le_prop (some_placed J))
+fated_past c true J is has = takes_place c J (∥∥₁_elim has le_prop (λ p. omega (arith, ap length p.is, length-append p.before (p.place ∷ []))))
 fated_past c false J is has = absurd (cc)
 
 -- the place adds no entry, and its own is given
@@ -227,50 +190,25 @@ end_is false (Some b) J some has = let clash : false ≡ true = some refl in abs
 
 -- Batches are short, so the kept entries can be counted.
 
--- a journal that ends in a place has the entries kept before it
-before_place : (js : List Batch) (p : EndsInPlace js) → kept_all js ≡ kept_all p.before
-before_place js p = ap kept_all p.is ∙ placed_all p.place p.free p.before
-
 pub few_placed : (js : List Batch) (b : Batch) → IsPlace b → AreFew false js → AreFew true (js ++ b ∷ [])
-few_placed js b place few =
-    let kept = ap length (placed_all b place js) in
-    let many = length-append js (b ∷ []) in
-    omega arith
+few_placed js b place few = omega (arith, ap length (placed_all b place js), length-append js (b ∷ []))
 
-few_at_last : (b : Batch) (js : List Batch) → EndsInPlace js → length b.entries ≤ entries_most → AreFew true js → AreFew false (with_last b js)
-few_at_last b js p short few =
-    let was = ap length (before_place js p) in
-    let is = ap length (ap (λ (l : List Batch). kept_all (with_last b l)) p.is ∙ (ap kept_all (with_last-append b p.before p.place) ∙ kept_all_append p.before (b ∷ []))) in
-    let long = length-append (kept_all p.before) (kept_all (b ∷ [])) in
-    let one = at_most (is_kept b.fate) b.entries in
-    let many = as_many b js in
-    omega arith
-  where
-    at_most : (z : Bool) (es : List Entry) → length ((if z then es else []) ++ []) ≤ length es
-    at_most true es = let e = ap length (append-nil es) in omega arith
-    at_most false es = omega arith
-
--- the batch that takes the place at the end
+-- the batch that takes the place at the end, or the journal without it
 pub few_last : (b : Batch) (placed : Bool) (js : List Batch) → placed ≡ true → ∥ HasPlace placed js ∥₁ → length b.entries ≤ entries_most → AreFew placed js → AreFew false (with_last b js)
-few_last b placed js is has short few = ∥∥₁_elim has le_prop (λ h. few_at_last b js (has_ends placed js is h) short (subst (λ (z : Bool). AreFew z js) is few))
+few_last b true js is has short few =
+    let same : length (kept_all (with_last b js)) ≡ length (kept_all (without_last js) ++ kept_all (b ∷ [])) = ap length (ap kept_all (sym (fated_past b true js refl has)) ∙ kept_all_append (without_last js) (b ∷ [])) in
+    let one = test_cases (is_kept b.fate) (length (kept_all (b ∷ [])) ≤ length b.entries) (λ e. rw e (omega (arith, ap length (append-nil b.entries)))) (λ e. rw e (omega arith)) in
+    omega (arith, few, short, same, one, as_many b js, length-append (kept_all (without_last js)) (kept_all (b ∷ [])), ap length (past_kept true js has))
+few_last b false js is has short few = absurd (cc)
 
--- without the place at the end
 pub few_unplaced : (placed : Bool) (js : List Batch) → placed ≡ true → ∥ HasPlace placed js ∥₁ → AreFew placed js → AreFew false (without_last js)
-few_unplaced placed js is has few = ∥∥₁_elim has le_prop (λ h. without (has_ends placed js is h) (subst (λ (z : Bool). AreFew z js) is few)) where
-  without : EndsInPlace js → AreFew true js → AreFew false (without_last js)
-  without p few =
-      let was = ap length (before_place js p) in
-      let left = ap (λ (l : List Batch). without_last l) p.is ∙ without_last-append p.before p.place in
-      let many = ap length p.is ∙ length-append p.before (p.place ∷ []) in
-      subst (λ (l : List Batch). AreFew false l) (sym left) (omega arith)
+few_unplaced true js is has few = omega (arith, few, ap length (past_kept true js has), (without_one js).1)
+few_unplaced false js is has few = absurd (cc)
 
 -- what a stop leaves reserved, and a call that gives the lock up, or not
-pub left_after_stop : (by : MemberId) (reserved : Option (List Entry)) → (reserved_after_stop by reserved ≡ None) ⊎ (reserved_after_stop by reserved ≡ reserved)
-left_after_stop by None = inr refl
-left_after_stop by (Some es) = either (is_of_member by es) where
-  either : (z : Bool) → ((if z then None else Some es) ≡ None) ⊎ ((if z then None else Some es) ≡ Some es)
-  either true = inl refl
-  either false = inr refl
+pub left_after_stop : (by : MemberId) (reserved is : Option (List Entry)) → is ≡ reserved_after_stop by reserved → (is ≡ None) ⊎ (is ≡ reserved)
+left_after_stop by None is e = inl e
+left_after_stop by (Some es) is e = subst (λ (r : Option (List Entry)). (r ≡ None) ⊎ (r ≡ Some es)) (sym e) (of_if (λ (r : Option (List Entry)). (r ≡ None) ⊎ (r ≡ Some es)) (is_of_member by es) None (Some es) (λ _. inl refl) (λ _. inr refl))
 
 pub left_after_free : {T E : Type 0} (r : Result T E) (was is : Option (List Entry)) → OnOk r (is ≡ None) → OnErr r (is ≡ was) → (is ≡ None) ⊎ (is ≡ was)
 left_after_free (Ok x) was is none same = inl none
@@ -281,22 +219,15 @@ short_left was is (inl e) short = subst (λ (r : Option (List Entry)). length (e
 short_left was is (inr e) short = subst (λ (r : Option (List Entry)). length (entries_reserved r) ≤ entries_most) (sym e) short
 
 -- a print
-pub left_after_print : (by : MemberId) (done : Act) (reserved : Option (List Entry)) → (reserved_by by done reserved ≡ None) ⊎ (reserved_by by done reserved ≡ reserved)
-left_after_print by Halted reserved = left_after_stop by reserved
-left_after_print by _ reserved = inr refl
-
--- so many can be counted
-pub few_counted : (placed : Bool) (js : List Batch) → AreFew placed js → length js ≤ journal_most → min (length (kept_all js)) top ≡ length (kept_all js)
-few_counted placed js few many = omega (arith, few, many)
+pub left_after_print : (by : MemberId) (done : Act) (reserved is : Option (List Entry)) → is ≡ reserved_by by done reserved → (is ≡ None) ⊎ (is ≡ reserved)
+left_after_print by Halted reserved is e = left_after_stop by reserved is e
+left_after_print by _ reserved is e = inr e
 
 -- The replies of a history, as the journal grows.
 
 -- the queue after a batch and the kept ones after it
 after_is : (Q : Queue) (b : Batch) (bs : List Batch) → run Q (kept_all (b ∷ bs)) ≡ run (after_batch Q b) (kept_all bs)
-after_is Q b bs = by_fate (is_kept b.fate) where
-  by_fate : (c : Bool) → run Q ((if c then b.entries else []) ++ kept_all bs) ≡ run (if c then run Q b.entries else Q) (kept_all bs)
-  by_fate true = run_append Q b.entries (kept_all bs)
-  by_fate false = refl
+after_is Q b bs = test_cases (is_kept b.fate) (run Q (kept_all (b ∷ bs)) ≡ run (after_batch Q b) (kept_all bs)) (λ e. rw e (run_append Q b.entries (kept_all bs))) (λ e. rw e refl)
 
 pub replied_front : (Q : Queue) (xs ys : List Batch) → AreReplied Q (xs ++ ys) → AreReplied Q xs
 replied_front Q [] ys are = tt
@@ -309,19 +240,6 @@ replied_rest Q (b ∷ xs) ys are = subst (λ (R : Queue). AreReplied R ys) (sym 
 pub replied_both : (Q : Queue) (xs ys : List Batch) → AreReplied Q xs → AreReplied (run Q (kept_all xs)) ys → AreReplied Q (xs ++ ys)
 replied_both Q [] ys front rest = rest
 replied_both Q (b ∷ xs) ys front rest = (front.0, replied_both (after_batch Q b) xs ys front.1 (subst (λ (R : Queue). AreReplied R ys) (after_is Q b xs) rest))
-
--- the replies of a journal after which nothing is in flight
-and_none : (Q : Queue) (js : List Batch) → AreReplied Q js → AreReplied Q (js ++ [])
-and_none Q js are = subst (λ (l : List Batch). AreReplied Q l) (sym (append-nil js)) are
-
--- a batch begins
-pub begun_replied : (Q : Queue) (js : List Batch) (b : Batch) → AreReplied Q (js ++ []) → HaveReplies (run Q (kept_all js)) b.entries → AreReplied Q (js ++ b ∷ [])
-begun_replied Q js b are have = replied_both Q js (b ∷ []) (replied_front Q js [] are) (have, tt)
-
--- the batch in flight gets its fate
-pub fated_replied : (Q : Queue) (js : List Batch) (b c : Batch) → AreReplied Q (js ++ b ∷ []) → c.entries ≡ b.entries → AreReplied Q ((js ++ c ∷ []) ++ [])
-fated_replied Q js b c are same =
-    and_none Q (js ++ c ∷ []) (replied_both Q js (c ∷ []) (replied_front Q js (b ∷ []) are) (subst (λ (es : List Entry). HaveReplies (run Q (kept_all js)) es) (sym same) (replied_rest Q js (b ∷ []) are).0, tt))
 
 -- Which batches may begin.
 
@@ -352,9 +270,7 @@ any_anew by (e ∷ es) =
 pub first_is : (by : MemberId) (es : List Entry) (b : BriefEntry) → slice_get (map brief_of es) 0 ≡ Some b
     → is_of_member by es ≡ same_member b.by by
 first_is by [] b e = absurd (cc)
-first_is by (x ∷ es) b e =
-    let same : brief_of x ≡ b = cc in
-    ap (λ (y : BriefEntry). same_member y.by by) same
+first_is by (x ∷ es) b e = cc
 
 pub first_none : (by : MemberId) (es : List Entry) → slice_get (map brief_of es) 0 ≡ None → is_of_member by es ≡ false
 first_none by [] e = refl

@@ -1,20 +1,12 @@
 -- Nobody who is stopped in the book is up after a call of it.
-use Rattle.mas_complex.proofs.Names.{◌≡◌, ◌≢◌, ℕ, ◌-◌, ◌≤◌, ◌<◌, ◌==◌, ◌||◌, Bool, true, false, if◌then◌else◌, length, subst, sym, ◌∙◌, ap, arith, is_some, Some, slice_index_or, get_or-set_same, get_or-set_other, MemberId, nobody, Book, IsMember, beginner, standing, is_stopped, is_holder, left_of, with_standing, with_holder, granted, ticked, try_refusal, after_try, noted, after_free, after_stop, seize_refusal, after_seize, after_spend, test_cases, List, [], ◌∷◌, Option, None, refl, not, true≢false, eq-eqb, Batch, Entry, Kept, Dropped, is_somebody, same_member, is_flying, is_dormant, wakes, same_member_is, Act, ActHalted as Halted, AreSettled, fated, with_last, without_last, book_by, ◌⊎◌, inl, inr, ⊎_elim, IsFatedBy, past_batches}
-use Rattle.mas_complex.proofs.Basics.{number_is, apart_is, stays_true}
+use Rattle.mas_complex.proofs.Names.{◌≡◌, ◌≢◌, ℕ, ◌-◌, ◌==◌, ◌||◌, Bool, true, false, if◌then◌else◌, length, subst, sym, ◌∙◌, ap, arith, is_some, Some, slice_index_or, get_or-set_same, get_or-set_other, MemberId, nobody, Book, IsMember, beginner, standing, is_stopped, is_holder, left_of, with_standing, with_holder, granted, ticked, try_refusal, after_try, noted, after_free, after_stop, seize_refusal, after_seize, after_spend, test_cases, List, ◌∷◌, Option, None, refl, not, true≢false, eq-eqb, Batch, Kept, Dropped, is_somebody, same_member, is_dormant, wakes, same_member_is, Act, ActHalted as Halted, AreSettled, fated, without_last, book_by, ◌⊎◌, inl, inr, ⊎_elim, IsFatedBy, not-false as is_not, not-false}
+use Rattle.mas_complex.proofs.Basics.{number_is, apart_is, stays_true, of_if}
 use Rattle.mas_complex.proofs.Batches.{as_many}
 use Rattle.lock_cycle.specs.declared.standings.Standing.{Standing}
-use Rattle.lock_cycle.specs.declared.answers.LockNo.{LockNo}
-use Rattle.lock_cycle.specs.declared.answers.SeizeNo.{SeizeNo}
-use Rattle.std.proofs.lemmas.Bool.{not-false as is_not}
-use Rattle.lock_cycle.specs.declared.answers.LockNo.TheVariants as lock
-use Rattle.lock_cycle.specs.declared.answers.SeizeNo.TheVariants as seized
 
 module _ (b : Book) (m : MemberId) (s : Standing) (inside : IsMember b m) where
   at_own : (k : MemberId) → k.0 - 1 ≡ m.0 - 1 → standing (with_standing b m s) k ≡ s
   at_own k same = rw same (get_or-set_same b.members (m.0 - 1) s (beginner 0) (omega (arith, inside.0, inside.1)))
-
-  at_other : (k : MemberId) → k.0 - 1 ≢ m.0 - 1 → standing (with_standing b m s) k ≡ standing b k
-  at_other k apart = get_or-set_other b.members (m.0 - 1) (k.0 - 1) s (beginner 0) apart
 
   pub standing_up : (s.stopped ≡ false → is_stopped b m ≡ false) → (k : MemberId) → is_stopped (with_standing b m s) k ≡ false → is_stopped b k ≡ false
   standing_up own k up =
@@ -22,7 +14,7 @@ module _ (b : Book) (m : MemberId) (s : Standing) (inside : IsMember b m) where
       (λ e. let same : k.0 - 1 ≡ m.0 - 1 = number_is (k.0 - 1) (m.0 - 1) e in
       let mine : is_stopped b m ≡ false = own (sym (ap (λ (x : Standing). x.stopped) (at_own k same)) ∙ up) in
       subst (λ (n : ℕ). (slice_index_or b.members n (beginner 0)).stopped ≡ false) (sym same) mine)
-      (λ e. sym (ap (λ (x : Standing). x.stopped) (at_other k (λ same. apart_is (k.0 - 1) (m.0 - 1) e same))) ∙ up)
+      (λ e. sym (ap (λ (x : Standing). x.stopped) (get_or-set_other b.members (m.0 - 1) (k.0 - 1) s (beginner 0) (λ same. apart_is (k.0 - 1) (m.0 - 1) e same))) ∙ up)
 
 pub granted_up : (b : Book) (m : MemberId) → IsMember b m → (k : MemberId) → is_stopped (granted b m) k ≡ false → is_stopped b k ≡ false
 granted_up b m inside k up = standing_up (with_holder b m) m (record (standing b m) { left = b.hold }) inside (λ u. u) k up
@@ -39,18 +31,9 @@ stopped_up b m inside k up = (apart, standing_up b m (record (standing b m) { st
 
 -- EACH BATCH HAS ITS FATE
 
-pub settled_with_last : (b : Batch) (js : List Batch) (now : ℕ) → AreSettled js now → is_flying b.fate ≡ false → b.first ≤ b.last → b.last ≤ now → AreSettled (with_last b js) now
-settled_with_last b [] now are fate first last = tt
-settled_with_last b (a ∷ []) now are fate first last = (fate, first, last, tt)
-settled_with_last b (a ∷ next ∷ js) now are fate first last = (are.0, are.1, are.2, settled_with_last b (next ∷ js) now are.3 fate first last)
-
 pub settled_without_last : (js : List Batch) (now : ℕ) → AreSettled js now → AreSettled (without_last js) now
 settled_without_last (a ∷ next ∷ js) now are = (are.0, are.1, are.2, settled_without_last (next ∷ js) now are.3)
 settled_without_last _ now are = tt
-
-pub settled_past : (placed : Bool) (js : List Batch) (now : ℕ) → AreSettled js now → AreSettled (past_batches placed js) now
-settled_past true js now are = settled_without_last js now are
-settled_past false js now are = are
 
 -- a batch in flight that gets its fate has its place already
 pub as_many_fated : (found reached now : ℕ) (c : Option Batch) (was is : List Batch) → IsFatedBy found reached now c was is → length is ≡ length was
@@ -65,14 +48,6 @@ IsOwned c book = (batch : Batch) → c ≡ Some batch → batch.by ≢ book.hold
 
 pub owned_none : (book : Book) → IsOwned None book
 owned_none book batch is other = absurd (cc)
-
--- the member of a batch, if there is one
-abbrev member_of : MemberId → Option Batch → MemberId
-member_of m None = m
-member_of m (Some b) = b.by
-
-pub owned_own : (b : Batch) (book : Book) → book.holder ≡ b.by → IsOwned (Some b) book
-owned_own b book holds batch is other = absurd (other (subst (λ (x : Option Batch). member_of book.holder x ≡ book.holder) is (sym holds)))
 
 -- WHAT A CALL LEAVES OF THE BOOK: who was stopped still is, and what is in flight is still somebody's
 
@@ -101,50 +76,31 @@ module _ (b : Book) (m : MemberId) (c : Option Batch) (inside : IsMember b m) (o
   -- a try is granted where nobody holds, and nothing is in flight then
   pub tries : (inner : Bool) → (b.holder ≡ nobody → c ≡ None) → Booked c b (after_try b m inner)
   tries inner away =
-      test_cases (is_stopped b m || is_holder b m) (Booked c b (after_try b m inner))
-      (λ e. rw e (books b (λ k up. up) (inl refl)))
-      (λ e. test_cases (is_some (try_refusal b m inner)) (Booked c b (after_try b m inner))
-      (λ r. rw (e, r) (books (ticked b inner) (λ k up. up) (inl refl)))
-      (λ r. rw (e, r) (books (granted (ticked b inner) m) (granted_up (ticked b inner) m inside) (inr (λ batch is. let none : c ≡ None = away (nobody_holds e r) in absurd (cc))))))
-    where
-      not_busy : (stopped holds busy : Bool) (down held rest : Option LockNo) → (stopped || holds) ≡ false → is_some held ≡ true → is_some (if stopped then down else if holds then None else if busy then held else rest) ≡ false → busy ≡ false
-      not_busy false false true down held rest e some none = absurd (true≢false (sym some ∙ none))
-      not_busy false false false down held rest e some none = refl
-      not_busy _ _ busy down held rest e some none = absurd (true≢false e)
-
-      nobody_holds : (is_stopped b m || is_holder b m) ≡ false → is_some (try_refusal b m inner) ≡ false → b.holder ≡ nobody
-      nobody_holds e r =
-          let free : is_somebody b.holder ≡ false = not_busy (is_stopped b m) (is_holder b m) (is_somebody b.holder) (Some lock.Down) (Some (lock.Busy b.holder)) (if is_dormant b m inner then Some (lock.Dormant (wakes b m)) else None) e refl r in
-          same_member_is b.holder nobody (is_not (b.holder.0 == 0) free)
+      test_cases (is_stopped b m) (Booked c b (after_try b m inner)) (λ s. rw s (books b (λ k up. up) (inl refl))) (λ s.
+      test_cases (is_holder b m) (Booked c b (after_try b m inner)) (λ h. rw (s, h) (books b (λ k up. up) (inl refl))) (λ h.
+      test_cases (is_somebody b.holder) (Booked c b (after_try b m inner)) (λ e. rw (s, h, e) (books (ticked b inner) (λ k up. up) (inl refl))) (λ e.
+      test_cases (is_dormant b m inner) (Booked c b (after_try b m inner)) (λ d. rw (s, h, e, d) (books (ticked b inner) (λ k up. up) (inl refl))) (λ d.
+      let same : after_try b m inner ≡ granted (ticked b inner) m = rw (s, h, e, d) refl in
+      subst (Booked c b) (sym same) (books (granted (ticked b inner) m) (granted_up (ticked b inner) m inside) (inr (λ batch is. let none : c ≡ None = away (same_member_is b.holder nobody (not-false (b.holder.0 == 0) e)) in absurd (cc))))))))
 
   -- the member that holds has nothing in flight when it gives the lock up
   pub frees : (inner : Bool) → (is_holder b m ≡ true → c ≡ None) → Booked c b (after_free b m inner)
   frees inner none =
       test_cases (is_holder b m) (Booked c b (after_free b m inner))
-      (λ e. rw e (books (if inner then with_holder b nobody else with_holder (noted b m) nobody) (by inner) (inr (λ batch is. let free : c ≡ None = none e in absurd (cc)))))
+      (λ e. rw e (books (if inner then with_holder b nobody else with_holder (noted b m) nobody) (of_if (λ (x : Book). (k : MemberId) → is_stopped x k ≡ false → is_stopped b k ≡ false) inner (with_holder b nobody) (with_holder (noted b m) nobody) (λ _ k u. u) (λ _ k u. standing_up b m (record (standing b m) { freed = Some b.tick }) inside (λ w. w) k u)) (inr (λ batch is. let free : c ≡ None = none e in absurd (cc)))))
       (λ e. rw e (books b (λ k up. up) (inl refl)))
-    where
-      by : (i : Bool) (k : MemberId) → is_stopped (if i then with_holder b nobody else with_holder (noted b m) nobody) k ≡ false → is_stopped b k ≡ false
-      by true k u = u
-      by false k u = standing_up b m (record (standing b m) { freed = Some b.tick }) inside (λ w. w) k u
 
   -- the lock is taken over from a member that is stopped
   pub seizes : (of : MemberId) → Booked c b (after_seize b m of)
   seizes of =
-      test_cases (is_some (seize_refusal b of)) (Booked c b (after_seize b m of))
-      (λ r. rw r (books b (λ k up. up) (inl refl)))
-      (λ r. rw r (books (granted b m) (granted_up b m inside) (inr (stopped r))))
+      test_cases (is_stopped b of) (Booked c b (after_seize b m of)) (λ s.
+      test_cases (is_holder b of) (Booked c b (after_seize b m of)) (λ h. rw (s, h) (books (granted b m) (granted_up b m inside) (inr (stopped s h)))) (λ h. rw (s, h) (books b (λ k up. up) (inl refl))))
+      (λ s. rw s (books b (λ k up. up) (inl refl)))
     where
-      of_whom : (is_down holds : Bool) (up other : Option SeizeNo) → is_some up ≡ true → is_some other ≡ true → is_some (if not is_down then up else if holds then None else other) ≡ false → (is_down ≡ true) × (holds ≡ true)
-      of_whom true true up other one two r = (refl, refl)
-      of_whom true false up other one two r = absurd (true≢false (sym two ∙ r))
-      of_whom false holds up other one two r = absurd (true≢false (sym one ∙ r))
-
-      stopped : is_some (seize_refusal b of) ≡ false → (batch : Batch) → c ≡ Some batch → is_stopped b batch.by ≡ true
-      stopped r batch is =
-          let from : (is_stopped b of ≡ true) × (is_holder b of ≡ true) = of_whom (is_stopped b of) (is_holder b of) (Some seized.StillUp) (Some (seized.NotHolder b.holder)) refl refl r in
+      stopped : is_stopped b of ≡ true → is_holder b of ≡ true → (batch : Batch) → c ≡ Some batch → is_stopped b batch.by ≡ true
+      stopped down holds batch is =
           test_cases (same_member batch.by b.holder) (is_stopped b batch.by ≡ true)
-          (λ e. subst (λ (k : MemberId). is_stopped b k ≡ true) (sym (same_member_is batch.by b.holder e ∙ same_member_is b.holder of from.1)) from.0)
+          (λ e. subst (λ (k : MemberId). is_stopped b k ≡ true) (sym (same_member_is batch.by b.holder e ∙ same_member_is b.holder of holds)) down)
           (λ e. own batch is (λ same. true≢false (sym (eq-eqb batch.by.0 b.holder.0 (ap (λ (k : MemberId). k.0) same)) ∙ e)))
 
 module _ (b : Book) (m : MemberId) where

@@ -1,15 +1,12 @@
 -- Copies once the batch in flight has its fate, and lines that are said.
-use Rattle.mas_complex.proofs.Names.{AreLater, AreNotedBefore, Page, page_count, ◌≡◌, inl, inr, ⊎_elim, ℕ, ◌+◌, ◌≤◌, ◌<◌, ◌||◌, Bool, true, false, List, [], ◌∷◌, ◌++◌, if◌then◌else◌, Option, Some, None, IfSome, refl, subst, sym, ◌∙◌, ap, arith, le_refl, append-nil, Ckpt1, Ckpt2, Act, Done, Failed, ActHalted as Halted, View, ViewDisk as Disk, disk_now, Says, Said, next, MemberId, Batch, Entry, Kept, Dropped, Before, Opened, kept_all, batches_kept, in_flight, StepIsKept, is_kept, is_flying, level, Setting, Stands, IsNext, IsNear, IsAway, IsStale, OnComing, Copy, Keeps, IsCkpt, Dev, CopyAt, is_away, pick, IsAt, Versions, ◌==◌, ◌&&◌, cond, length, filter, All, Contains, All-nil, All-cons, Queue, kept_at, flying_at, entries_of, is_kept_by, is_flying_at, IsSound, Disk as DiskPart, Line, disk_at, top, either_way, ne_eqb, true≢false, IsLeftOf, spools_at, lost_now, GivesTexts, kept, flying, has_step, journal_most, Closes, run, StandFor, Renewals, is_renewed_at, setting_with, Alike, AreSunk, TextsAt, ReadsAtLevel, Account, TellOnly, entries_in, IsFound, EachTells, said, found, lost_if, left_at, IsLeft, ReadsBy, ReadsUpTo, PaperKept, AreAlike, AreLevelsLow, FoundFor, Headline, whole, of_device, drop, ◌⊎◌, not, Spool, Flying, World, Goes, Renewal, is_open, AreRenewedBy, ReadsOne, BeginsWith, setting, SomeLeft, SomeGood, HasTexts, LeavesQueue, Place, next_order}
+use Rattle.mas_complex.proofs.Names.{span_of, AreLater, Page, page_count, ◌≡◌, inl, inr, ⊎_elim, ℕ, ◌+◌, ◌≤◌, ◌<◌, ◌||◌, Bool, true, false, List, [], ◌∷◌, ◌++◌, if◌then◌else◌, Option, Some, None, IfSome, refl, subst, sym, ◌∙◌, ap, arith, le_refl, append-nil, Ckpt1, Ckpt2, Act, Done, Failed, ActHalted as Halted, View, ViewDisk as Disk, disk_now, Says, Said, next, MemberId, Batch, Entry, Kept, Before, Opened, kept_all, batches_kept, in_flight, StepIsKept, is_kept, is_flying, level, Setting, Stands, IsNext, IsNear, IsAway, IsStale, Copy, Keeps, IsCkpt, Dev, CopyAt, is_away, ◌==◌, ◌&&◌, cond, length, filter, All, All-nil, All-cons, Queue, kept_at, flying_at, entries_of, is_kept_by, is_flying_at, IsSound, Disk as DiskPart, Line, disk_at, top, either_way, ne_eqb, true≢false, IsLeftOf, spools_at, lost_now, kept, flying, has_step, journal_most, run, StandFor, Renewals, is_renewed_at, setting_with, Alike, AreSunk, TextsAt, ReadsAtLevel, Account, entries_in, lost_if, left_at, IsLeft, ReadsBy, ReadsUpTo, PaperKept, Headline, whole, of_device, ◌⊎◌, not, Spool, World, Goes, Renewal, is_open, AreRenewedBy, ReadsOne, BeginsWith, setting, SomeLeft, SomeGood, LeavesQueue, Place, next_order, TextsStand, or_left, or_right, no_renewals, closing_line, and-false}
 use Rattle.mas_complex.proofs.Batches.{kept_all_append, account_now}
 use Rattle.mas_complex.proofs.Basics.{some_of, each}
-use Rattle.mas_complex.proofs.Present.{Reads, alike_found, at_kept, copy_reads, kept_append, kept_one, less_up, one_up, only_pages, renewed_open, top_reads}
+use Rattle.mas_complex.proofs.Present.{coming_of, sent, Reads, alike_found, at_kept, copy_reads, kept_append, one_up, only_pages, renewed_open, left_now}
 use Rattle.mas_complex.proofs.Moves.{Adds, adds_none, adds_one, fate_keeps, one_of}
-use Rattle.mas_complex.proofs.Sides.{at_place, is_higher, rests_before, moved}
+use Rattle.mas_complex.proofs.Sides.{at_place, is_higher, rests_before}
 use Rattle.mas_complex.proofs.Spooled.{gives_texts}
-use Rattle.std.proofs.lemmas.Bool.{or_left, or_right}
-use Rattle.mas_types.specs.Closings.{closing_line}
 use Rattle.mas_types.specs.declared.journals.Journal.{Journal}
-use Rattle.mas_complex.specs.Renewals.{no_renewals}
 
 pub one_kept : (c : Batch) → c.fate ≡ Kept → kept_all (c ∷ []) ≡ c.entries
 one_kept c fate = ap (λ f. (if is_kept f then c.entries else []) ++ []) fate ∙ append-nil c.entries
@@ -22,25 +19,9 @@ away_up S was pages higher true now d away = λ image is. up (S.reads image) (aw
   up None stale = tt
   up (Some p) stale = inr (⊎_elim (λ same. subst (λ (l : List ℕ). level l < level pages) (sym same) higher) (λ lower. omega (arith, lower, higher)) stale)
 
-module _ (S : Setting) (was : List ℕ) (coming : Option (List ℕ)) (dev : Dev) (c : Copy) (v : View) (copy : CopyAt S was coming dev c v) where
-  -- an alive copy that has opened its gate has pages in flight
-  opened_at : c.alive ≡ true → c.place ≡ Opened → OnComing coming (λ p. c.rests p (disk_now v dev))
-  opened_at is opened = at_place S was coming c c.place Opened (disk_now v dev) opened (copy.at is)
-
-  pub none_opened : c.alive ≡ true → c.place ≡ Opened → coming ≡ None → ⊥
-  none_opened is opened none = subst (λ (n : Option (List ℕ)). OnComing n (λ p. c.rests p (disk_now v dev))) none (opened_at is opened)
-
-  -- the copy at another place, which is that before any batch where it counts as alive
-  module _ (q : Place) (at_rest : c.alive ≡ true → q ≡ Before) where
-    pub after_kept : (pages : List ℕ) → level was < level pages → coming ≡ Some pages → (c.alive ≡ true → c.place ≡ Opened) → CopyAt S pages None dev (record c { place = q }) v
-    after_kept pages higher same opened = record {
-      at = λ is. at_place S pages None (record c { place = q }) Before q (disk_now v dev) (sym (at_rest is)) (subst (λ (n : Option (List ℕ)). OnComing n (λ p. c.rests p (disk_now v dev))) same (opened_at is (opened is)));
-      formed = copy.formed;
-      gone = λ dead. away_up S was pages higher (is_away S dev) v.now (disk_now v dev) (copy.gone dead);
-    }
-
-    pub after_dropped : (c.alive ≡ true → c.place ≡ Before) → CopyAt S was None dev (record c { place = q }) v
-    after_dropped before = record { at = λ is. at_place S was None (record c { place = q }) Before q (disk_now v dev) (sym (at_rest is)) (rests_before S was coming c dev v copy before is); formed = copy.formed; gone = copy.gone }
+-- a copy that counts as alive and has opened its gate is at rest with the pages in flight
+pub opened_at : (S : Setting) (was : List ℕ) (coming : Option (List ℕ)) (dev : Dev) (c : Copy) (v : View) → CopyAt S was coming dev c v → c.alive ≡ true → c.place ≡ Opened → (coming ≡ Some (sent coming)) × c.rests (sent coming) (disk_now v dev)
+opened_at S was coming dev c v copy is opened = coming_of coming (λ p. c.rests p (disk_now v dev)) (at_place S was coming c c.place Opened (disk_now v dev) opened (copy.at is))
 
 module _ (S : Setting) (js : List Batch) (b c : Batch) (reached : ℕ) (copies : Dev → Copy) (v : View) (keeps : Keeps S js (Some b) reached copies v)
     (fated : is_flying c.fate ≡ false) (same_first : c.first ≡ b.first) (same_entries : c.entries ≡ b.entries) (last : c.last ≡ v.now) (places : Dev → Place) (at_rest : (d : Dev) → IsCkpt d → (copies d).alive ≡ true → places d ≡ Before) where
@@ -48,38 +29,48 @@ module _ (S : Setting) (js : List Batch) (b c : Batch) (reached : ℕ) (copies :
   abbrev rested : Dev → Copy
   rested d = record (copies d) { place = places d }
 
-  -- the kept pages once the batch in flight has its fate, with which each alive copy is at rest
-  resting : (reached' : ℕ) → reached ≤ reached' → reached' ≤ reached + batches_kept (c ∷ []) → (p : Versions S reached' (kept_all (js ++ c ∷ [])) [] keeps.first_level keeps.first_order) → ((d : Dev) → IsCkpt d → CopyAt S p.was p.coming d (rested d) v) → ((d : Dev) → IsCkpt d → (copies d).alive ≡ true → AreNotedBefore S p.was p.coming) → Keeps S (js ++ c ∷ []) None reached' rested v
-  resting reached' least most p at later = fate_keeps S js b c reached reached' copies rested v least most keeps fated same_first same_entries last p at later
+  abbrev Later : List ℕ → Type 0
+  Later = AreLater (page_count S.base.config) S.had
 
+  -- the kept pages once the batch in flight has its fate, with which each alive copy is at rest: the same, or higher ones
+  resting : (reached' : ℕ) (pages : List ℕ) → reached ≤ reached' → reached' ≤ reached + batches_kept (c ∷ []) → Stands S reached' (kept_all (js ++ c ∷ [])) pages → IsNear keeps.first_level keeps.first_order pages → (pages ≡ keeps.pages.was) ⊎ (level keeps.pages.was < level pages)
+      → ((d : Dev) → IsCkpt d → (copies d).alive ≡ true → (copies d).rests pages (disk_now v d) × Later pages) → Keeps S (js ++ c ∷ []) None reached' rested v
+  resting reached' pages least most stands near up rest = fate_keeps S js b c reached reached' copies rested v least most keeps fated same_first same_entries last
+      (record { was = pages; coming = None; stands = stands; comes = tt; none = λ _. refl; near = near; comes_near = tt })
+      (λ d ckpt. let x = keeps.at d ckpt in record {
+        at = λ is. at_place S pages None (rested d) Before (places d) (disk_now v d) (sym (at_rest d ckpt is)) (rest d ckpt is).0;
+        formed = x.formed;
+        gone = λ dead. ⊎_elim
+            (λ same. subst (λ (l : List ℕ). IsAway S l (is_away S d) v.now (disk_now v d)) (sym same) (x.gone dead))
+            (λ higher. away_up S keeps.pages.was pages higher (is_away S d) v.now (disk_now v d) (x.gone dead)) up;
+      })
+      (λ d ckpt is. ((rest d ckpt is).1, tt))
+
+  -- a copy counts as alive, and each that does has opened its gate: so there are pages in flight
   pub kept_keeps : c.fate ≡ Kept → ((copies Ckpt1).alive || (copies Ckpt2).alive) ≡ true → ((d : Dev) → IsCkpt d → (copies d).alive ≡ true → (copies d).place ≡ Opened) → Keeps S (js ++ c ∷ []) None (reached + 1) rested v
-  kept_keeps fate some opened = by_coming keeps.pages.coming refl keeps.pages.comes keeps.pages.comes_near keeps.later where
-    all : kept_all (js ++ c ∷ []) ≡ kept_all js ++ b.entries
-    all = kept_all_append js (c ∷ []) ∙ ap (λ (l : List Entry). kept_all js ++ l) (one_kept c fate ∙ same_entries)
+  kept_keeps fate some opened = resting (reached + 1) (sent keeps.pages.coming) (omega arith) (let one : batches_kept (c ∷ []) ≡ 1 = ap (λ f. (if is_kept f then 1 else 0) + 0) fate in omega (arith, one))
+      (subst (λ (l : List Entry). Stands S (reached + 1) l (sent keeps.pages.coming)) (sym (kept_all_append js (c ∷ []) ∙ ap (λ (l : List Entry). kept_all js ++ l) (one_kept c fate ∙ same_entries))) comes)
+      (subst (λ (n : Option (List ℕ)). IfSome n (IsNear keeps.first_level keeps.first_order)) same keeps.pages.comes_near)
+      (inr (is_higher (level keeps.pages.was) (level (sent keeps.pages.coming)) reached keeps.pages.stands.at_level comes.at_level))
+      (λ d ckpt is. ((at d ckpt is).1, subst (λ (n : Option (List ℕ)). IfSome n Later) same (keeps.later d ckpt is).1)) where
+        at : (d : Dev) → IsCkpt d → (copies d).alive ≡ true → (keeps.pages.coming ≡ Some (sent keeps.pages.coming)) × (copies d).rests (sent keeps.pages.coming) (disk_now v d)
+        at d ckpt is = opened_at S keeps.pages.was keeps.pages.coming d (copies d) v (keeps.at d ckpt) is (opened d ckpt is)
 
-    higher : {pages : List ℕ} → Stands S (reached + 1) (kept_all js ++ b.entries) pages → level keeps.pages.was < level pages
-    higher {pages} comes = is_higher (level keeps.pages.was) (level pages) reached keeps.pages.stands.at_level comes.at_level
+        same : keeps.pages.coming ≡ Some (sent keeps.pages.coming)
+        same = some_of (λ d. (copies d).alive) some (λ d ckpt is. (at d ckpt is).0)
 
-    -- a copy counts as alive, and each that does has opened its gate: so there are pages in flight
-    by_coming : (n : Option (List ℕ)) → keeps.pages.coming ≡ n → IsNext S reached (kept_all js) b.entries n → IfSome n (IsNear keeps.first_level keeps.first_order) → ((d : Dev) → IsCkpt d → (copies d).alive ≡ true → AreNotedBefore S keeps.pages.was n) → Keeps S (js ++ c ∷ []) None (reached + 1) rested v
-    by_coming None same comes near later = absurd (some_of (λ d. (copies d).alive) some (λ d ckpt is. none_opened S keeps.pages.was keeps.pages.coming d (copies d) v (keeps.at d ckpt) is (opened d ckpt is) same))
-    by_coming (Some pages) same comes near later =
-        resting (reached + 1) (omega arith) (omega (arith, kept_one c fate))
-        (record { was = pages; coming = None; stands = subst (λ (l : List Entry). Stands S (reached + 1) l pages) (sym all) comes; comes = tt; none = λ _. refl; near = near; comes_near = tt })
-        (λ d ckpt. after_kept S keeps.pages.was keeps.pages.coming d (copies d) v (keeps.at d ckpt) (places d) (at_rest d ckpt) pages (higher comes) same (opened d ckpt)) (λ d ckpt is. ((later d ckpt is).1, tt))
+        comes : Stands S (reached + 1) (kept_all js ++ b.entries) (sent keeps.pages.coming)
+        comes = subst (λ (n : Option (List ℕ)). IsNext S reached (kept_all js) b.entries n) same keeps.pages.comes
 
   -- no page changes: the batch is dropped, or the pages stand for the queue with it too
   pub same_keeps : (kept_all (c ∷ []) ≡ []) ⊎ ((kept_all (c ∷ []) ≡ b.entries) × ((pages : List ℕ) → S.stand (S.run S.base (kept_all js)) pages → S.stand (S.run S.base (kept_all js ++ b.entries)) pages)) → ((d : Dev) → IsCkpt d → (copies d).alive ≡ true → (copies d).place ≡ Before)
       → Keeps S (js ++ c ∷ []) None reached rested v
-  same_keeps alike before = resting reached (le_refl reached) (omega arith)
-      (record { was = keeps.pages.was; coming = None; stands = record { at_level = keeps.pages.stands.at_level; queue = queue alike }; comes = tt; none = λ _. refl; near = keeps.pages.near; comes_near = tt })
-      (λ d ckpt. after_dropped S keeps.pages.was keeps.pages.coming d (copies d) v (keeps.at d ckpt) (places d) (at_rest d ckpt) (before d ckpt)) (λ d ckpt is. ((keeps.later d ckpt is).0, tt)) where
-        with_kept : (es : List Entry) → kept_all (c ∷ []) ≡ es → S.stand (S.run S.base (kept_all js ++ es)) keeps.pages.was → S.stand (S.run S.base (kept_all (js ++ c ∷ []))) keeps.pages.was
-        with_kept es e = subst (λ (l : List Entry). S.stand (S.run S.base l) keeps.pages.was) (sym (kept_all_append js (c ∷ []) ∙ ap (λ (l : List Entry). kept_all js ++ l) e))
-
-        queue : (kept_all (c ∷ []) ≡ []) ⊎ ((kept_all (c ∷ []) ≡ b.entries) × ((pages : List ℕ) → S.stand (S.run S.base (kept_all js)) pages → S.stand (S.run S.base (kept_all js ++ b.entries)) pages)) → S.stand (S.run S.base (kept_all (js ++ c ∷ []))) keeps.pages.was
-        queue (inl none) = with_kept [] none (subst (λ (l : List Entry). S.stand (S.run S.base l) keeps.pages.was) (sym (append-nil (kept_all js))) keeps.pages.stands.queue)
-        queue (inr kept) = with_kept b.entries kept.0 (kept.1 keeps.pages.was keeps.pages.stands.queue)
+  same_keeps alike before = resting reached keeps.pages.was (le_refl reached) (omega arith) (record {
+    at_level = keeps.pages.stands.at_level;
+    queue = subst (λ (l : List Entry). S.stand (S.run S.base l) keeps.pages.was) (sym (kept_all_append js (c ∷ []))) (⊎_elim
+        (λ none. subst (λ (l : List Entry). S.stand (S.run S.base (kept_all js ++ l)) keeps.pages.was) (sym none) (subst (λ (l : List Entry). S.stand (S.run S.base l) keeps.pages.was) (sym (append-nil (kept_all js))) keeps.pages.stands.queue))
+        (λ kept. subst (λ (l : List Entry). S.stand (S.run S.base (kept_all js ++ l)) keeps.pages.was) (sym kept.0) (kept.1 keeps.pages.was keeps.pages.stands.queue)) alike);
+  }) keeps.pages.near (inl refl) (λ d ckpt is. (rests_before S keeps.pages.was keeps.pages.coming (copies d) d v (keeps.at d ckpt) (before d ckpt) is, (keeps.later d ckpt is).0))
 
 -- a line is said
 module _ (S : Setting) (J : List Batch) (old new : View) (line : List ℕ) (act : Act) where
@@ -119,19 +110,9 @@ pub left_below : (v : View) (t : ℕ) (dev : Dev) → t < top → left_at v t de
 left_below v t dev lt = ap (λ (b : Bool). lost_if (b && v.lost (DiskPart dev)) (disk_at v t dev)) (ne_eqb t top (λ e. absurd (omega (arith, e, lt))))
 
 -- an image is left of a volume that isn't lost now
-image_left : (last lost : Bool) (disk : Disk) (image : Option (List ℕ)) → lost ≡ false → (disk.lost ≡ true → lost ≡ true) → IsLeft (lost_if (last && lost) disk) image → IsLeftOf disk false image
-image_left last true disk image there sunk left = absurd (true≢false there)
-image_left true false disk None there sunk left = absurd (true≢false (sym (sunk left)))
-image_left true false disk (Some image) there sunk left = left
-image_left false false disk None there sunk left = absurd (true≢false (sym (sunk left)))
-image_left false false disk (Some image) there sunk left = left
-
--- what each image reads as that a crash leaves of a copy now
-left_reads : (S : Setting) (was : List ℕ) (coming : Option (List ℕ)) (dev : Dev) (c : Copy) (v : View) → Reads S.reads c → v.now ≤ top → CopyAt S was coming dev c v → (c.alive ≡ false → is_away S dev ≡ false → v.lost (DiskPart dev) ≡ true) → ReadsBy S (is_away S dev) was coming (left_at v v.now dev)
-left_reads S was coming dev c v laws most copy lost = ⊎_elim
-    (λ (h : top ≤ v.now). top_reads S was c laws coming dev v copy (omega (arith, most, h)) lost)
-    (λ (lt : v.now < top). subst (λ (x : Disk). ReadsBy S (is_away S dev) was coming x) (sym (left_below v v.now dev lt)) (copy_reads S was c laws coming dev v copy lt))
-    (either_way top v.now)
+image_left : (disk : Disk) (image : Option (List ℕ)) → (disk.lost ≡ true → ⊥) → IsLeft disk image → IsLeftOf disk false image
+image_left disk None there left = there left
+image_left disk (Some image) there left = left
 
 module _ (reads : List ℕ → Option (List ℕ)) (base : Queue) (since : ℕ) (rs : Renewals) (had : List (List Page)) (js : List Batch) (c : Option Batch) (reached : ℕ) (copies : Dev → Copy) (v : View) where
   abbrev S : Setting
@@ -140,10 +121,6 @@ module _ (reads : List ℕ → Option (List ℕ)) (base : Queue) (since : ℕ) (
   abbrev J : Journal
   J = record { batches = js ++ in_flight c }
 
-  found_for : (K : List Entry) (q : Option (List ℕ)) → IsFound S K q → FoundFor (run base K) q
-  found_for K None is = is
-  found_for K (Some pages) is = is
-
   next_of : (l : ℕ) (was : List ℕ) (K F : List Entry) (n : Option (List ℕ)) → Stands S l K was → IsNext S l K F n → IfSome n (λ pages. (level pages ≡ level was + 1) × StandFor (run base (K ++ F)) pages)
   next_of l was K F None stands comes = tt
   next_of l was K F (Some pages) stands comes = (omega (arith, stands.at_level, comes.at_level), comes.queue)
@@ -151,7 +128,7 @@ module _ (reads : List ℕ → Option (List ℕ)) (base : Queue) (since : ℕ) (
   module _ (keeps : Keeps S js c reached copies v) (most : v.now ≤ top) (lost : (d : Dev) → IsCkpt d → (copies d).alive ≡ false → is_away S d ≡ false → v.lost (DiskPart d) ≡ true) (laws : (d : Dev) → Reads reads (copies d)) where
     -- what holds at a moment at which these entries were kept and those in flight, with the devices as a crash finds them
     abbrev AtAny : List Entry → List Entry → ℕ → Type 0
-    AtAny K F t = Alike S keeps.first_level keeps.first_order reached K F t (left_at v t) × TextsAt S K F v t × AreSunk v t
+    AtAny K F t = Alike S (span_of keeps.first_level keeps.first_order reached) K F t (left_at v t) × TextsStand S K F v t
 
     at_now : AtAny (kept_all js) (entries_in c) v.now
     at_now = (
@@ -160,23 +137,16 @@ module _ (reads : List ℕ → Option (List ℕ)) (base : Queue) (since : ℕ) (
         low = le_refl reached;
         pages = keeps.pages;
         reads = λ d ckpt. subst (λ (b : Bool). ReadsBy S b keeps.pages.was keeps.pages.coming (left_at v v.now d)) (sym (renewed_open (of_device d rs) v.now v.now (keeps.renewed d ckpt) (le_refl v.now)))
-            (left_reads S keeps.pages.was keeps.pages.coming d (copies d) v (laws d) most (keeps.at d ckpt) (lost d ckpt));
+            (left_now S keeps.pages.was (copies d) (laws d) keeps.pages.coming d v (keeps.at d ckpt) (v.lost (DiskPart d)) most (lost d ckpt));
       },
-      keeps.texts,
-      keeps.sunk,
+      keeps.stood,
     )
 
     at_past : (t : ℕ) → since ≤ t → t < v.now → AtAny (kept J.batches t) (flying J.batches t) t
-    at_past t from lt = let m = keeps.past t from lt in let a = m.alike (omega (arith, most, lt)) in (
-      record {
-        reached = a.reached;
-        low = a.low;
-        pages = a.pages;
-        reads = λ d ckpt. subst (λ (x : Disk). ReadsBy S (is_renewed_at (of_device d rs) t) a.pages.was a.pages.coming x) (sym (left_below v t d (omega (arith, most, lt)))) (a.reads d ckpt);
-      },
-      m.texts,
-      m.sunk,
-    )
+    at_past t from lt =
+        let m = keeps.past t from lt in
+        let same : left_at v t ≡ disk_at v t = λ i d. left_below v t d (omega (arith, most, lt)) i in
+        (subst (λ (x : Dev → Disk). Alike S (span_of keeps.first_level keeps.first_order reached) (kept J.batches t) (flying J.batches t) t x) (sym same) (m.alike (omega (arith, most, lt))), m.stood)
 
     at_any : (t : ℕ) → since ≤ t → t ≤ v.now → AtAny (kept_at J t) (flying_at J t) t
     at_any t from le = subst (λ (es : List Entry × List Entry). AtAny es.0 es.1 t) (λ i. (kept_is J.batches t i, flying_is J.batches t i)) (⊎_elim
@@ -187,16 +157,16 @@ module _ (reads : List ℕ → Option (List ℕ)) (base : Queue) (since : ℕ) (
 
     -- the levels that images of a copy that isn't being replaced have at a moment
     up_to : (d : Dev) → IsCkpt d → (t : ℕ) → since ≤ t → t ≤ v.now → is_renewed_at (of_device d rs) t ≡ false → ReadsUpTo reads keeps.first_level keeps.first_order (keeps.first_level + batches_kept J.batches + 1) (left_at v t d)
-    up_to d ckpt t from le is = let a = (at_any t from le).0 in
-        less_up reads keeps.first_level keeps.first_order (a.reached + 1) (keeps.first_level + batches_kept J.batches + 1) (omega (arith, a.low, keeps.risen, kept_append js (in_flight c))) (left_at v t d)
-        (one_up a.pages (left_at v t d) (subst (λ (b : Bool). ReadsBy S b a.pages.was a.pages.coming (left_at v t d)) is (a.reads d ckpt)))
+    up_to d ckpt t from le is image there pages e =
+        let a = (at_any t from le).0 in
+        let low = one_up a.pages (left_at v t d) (subst (λ (b : Bool). ReadsBy S b a.pages.was a.pages.coming (left_at v t d)) is (a.reads d ckpt)) image there pages e in
+        (omega (arith, low.0, a.low, keeps.risen, kept_append js (in_flight c)), low.1)
 
     pub headline_of : length J.batches ≤ journal_most → (IsSound base → ∥ PaperKept base since J.batches v ∥₁) → Headline reads base since J rs v
     headline_of few paper = record {
       few = few;
       paper = paper;
-      crash = λ t from le good one two left right. ⊎_elim (λ x. inl (found_for (kept_at J t) (found S one two) x)) (λ x. inr (found_for (kept_at J t ++ flying_at J t) (found S one two) x))
-          (alike_found S (kept_at J t) (flying_at J t) t (left_at v t) (at_any t from le).0 one two left right good);
+      crash = λ t from le good one two left right. alike_found S (kept_at J t) (flying_at J t) t (left_at v t) (at_any t from le).0 one two left right good;
       alike = λ t from le. let a = (at_any t from le).0 in record {
         was = a.pages.was;
         coming = a.pages.coming;
@@ -216,8 +186,8 @@ module _ (reads : List ℕ → Option (List ℕ)) (base : Queue) (since : ℕ) (
       };
       texts = λ t from le volumes left.
           let at = at_any t from le in
-          let images = λ (n : ℕ) (there : lost_now v n ≡ false). image_left (t == top) (lost_now v n) (spools_at v t n) (volumes n) there (at.2 n) (left n) in
-          (gives_texts (lost_now v) volumes (spools_at v t) base.config.groups images (run base (kept_at J t)) (at.1 false), gives_texts (lost_now v) volumes (spools_at v t) base.config.groups images (run base (kept_at J t ++ flying_at J t)) (at.1 true));
+          let images = λ (n : ℕ) (there : lost_now v n ≡ false). image_left (spools_at v t n) (volumes n) (λ lost. true≢false (sym (at.1.1 n lost) ∙ there)) (rw (there, and-false (t == top)) at (left n)) in
+          (gives_texts (lost_now v) volumes (spools_at v t) base.config.groups images (run base (kept_at J t)) (at.1.0 false), gives_texts (lost_now v) volumes (spools_at v t) base.config.groups images (run base (kept_at J t ++ flying_at J t)) (at.1.0 true));
       told = λ t from le by at end telling there.
           step_is J.batches t by at (keeps.told t from le (closing_line by at end) there by at (record { end = end; telling = telling; is = refl }));
     }
@@ -241,8 +211,7 @@ module _ (S : Setting) (reached : ℕ) (copies : Dev → Copy) (v : View) (laws 
     told = λ t from le text there m s is. tt;
     grows = λ t from le. let e : v.now ≡ t = omega (arith, since) in
         record { more = []; is = ap (λ (m : ℕ). (v.world m).console) e ∙ sym (append-nil (v.world t).console) };
-    texts = texts;
-    sunk = sunk;
+    stood = (texts, sunk);
     first = λ lt d ckpt. subst (λ (m : ℕ). ReadsAtLevel S.reads reached (next_order begins.pages) (disk_at v m d)) (sym since) (at_kept S reached [] begins.pages begins.stands (disk_now v d)
         (subst (λ (b : Bool). ReadsBy S b begins.pages None (disk_now v d)) (ap is_open (none d)) (copy_reads S begins.pages (copies d) (laws d) None d v (begins.at d ckpt) (omega (arith, since, lt)))));
     risen = omega arith;
@@ -255,16 +224,9 @@ module _ (S : Setting) (reached : ℕ) (copies : Dev → Copy) (v : View) (laws 
     texts true = begins.texts
 
 -- a copy at a moment, as a crash finds it after later acts, where none was replaced
-module _ (S : Setting) (was : List ℕ) (coming : Option (List ℕ)) (dev : Dev) (c : Copy) (v later : View) (laws : Reads S.reads c) (known : is_away S dev ≡ false) (most : v.now ≤ top) (goes : Goes v later) (copy : CopyAt S was coming dev c v) (lost : c.alive ≡ false → v.lost (DiskPart dev) ≡ true) where
-  -- the later view at that moment
-  abbrev again : View
-  again = record v { world = later.world; lost = later.lost }
-
-  copy_again : CopyAt S was coming dev c again
-  copy_again = moved S was coming dev c v again (le_refl v.now) (ap (λ (w : World). w.disk dev) (goes.past v.now (le_refl v.now))) copy
-
-  pub first_reads : ReadsOne S was coming (left_at later v.now dev)
-  first_reads = subst (λ (b : Bool). ReadsBy S b was coming (left_at later v.now dev)) known (left_reads S was coming dev c again laws most copy_again (λ dead known. goes.lost (DiskPart dev) (lost dead)))
+pub first_reads : (S : Setting) (was : List ℕ) (coming : Option (List ℕ)) (dev : Dev) (c : Copy) (v later : View) → Reads S.reads c → is_away S dev ≡ false → v.now ≤ top → Goes v later → CopyAt S was coming dev c v → (c.alive ≡ false → v.lost (DiskPart dev) ≡ true) → ReadsOne S was coming (left_at later v.now dev)
+first_reads S was coming dev c v later laws known most goes copy lost = subst (λ (b : Bool). ReadsBy S b was coming (left_at later v.now dev)) known (subst (λ (w : World). ReadsBy S (is_away S dev) was coming (lost_if ((v.now == top) && later.lost (DiskPart dev)) (w.disk dev))) (sym (goes.past v.now (le_refl v.now)))
+    (left_now S was c laws coming dev v copy (later.lost (DiskPart dev)) most (λ dead known. goes.lost (DiskPart dev) (lost dead))))
 
 -- a copy of which an image is left is good where none was replaced
 left_good : (d e : Disk) (one two : Option (List ℕ)) → IsLeft d one → IsLeft e two → SomeLeft one two → SomeGood false false d e
@@ -272,15 +234,10 @@ left_good d e (Some one) two left right some = or_left (not d.lost && true) (not
 left_good d e None (Some two) left right some = or_right (not d.lost && true) (not e.lost && true) (rw right.there refl)
 left_good d e None None left right some = absurd some
 
-module _ (reads : List ℕ → Option (List ℕ)) (base : Queue) (since : ℕ) where
-  for_base : (q : Option (List ℕ)) → IsFound (setting reads base since) [] q ⊎ IsFound (setting reads base since) [] q → FoundFor base q
-  for_base _ after = ⊎_elim (λ h. h) (λ h. h) after
-
-  pub leaves_base : (reached : ℕ) (was : List ℕ) (v later : View) → Stands (setting reads base since) reached [] was → ((d : Dev) → IsCkpt d → ReadsOne (setting reads base since) was None (left_at later v.now d)) → LeavesQueue reads base v.now later
-  leaves_base reached was v later stands both x y left right some =
-      for_base (found (setting reads base since) x y)
-      (alike_found (setting reads base since) [] [] v.now (left_at later v.now) (record { reached = reached; low = le_refl reached; pages = only_pages (setting reads base since) reached [] was stands; reads = each (λ d. ReadsBy (setting reads base since) (is_renewed_at (of_device d no_renewals) v.now) was None (left_at later v.now d)) (both Ckpt1 tt) (both Ckpt2 tt) }) x y left right
-      (left_good (left_at later v.now Ckpt1) (left_at later v.now Ckpt2) x y left right some))
+pub leaves_base : (reads : List ℕ → Option (List ℕ)) (base : Queue) (since reached : ℕ) (was : List ℕ) (v later : View) → Stands (setting reads base since) reached [] was → ((d : Dev) → IsCkpt d → ReadsOne (setting reads base since) was None (left_at later v.now d)) → LeavesQueue reads base v.now later
+leaves_base reads base since reached was v later stands both x y left right some = ⊎_elim (λ h. h) (λ h. h)
+    (alike_found {span = span_of reached (next_order was) reached} (setting reads base since) [] [] v.now (left_at later v.now) (record { reached = reached; low = le_refl reached; pages = only_pages (setting reads base since) reached [] was stands; reads = each (λ d. ReadsBy (setting reads base since) (is_renewed_at (of_device d no_renewals) v.now) was None (left_at later v.now d)) (both Ckpt1 tt) (both Ckpt2 tt) }) x y left right
+    (left_good (left_at later v.now Ckpt1) (left_at later v.now Ckpt2) x y left right some))
 
 -- a copy that rests with pages before any batch, or is lost, where none was replaced
 pub rested_copy : (S : Setting) (dev : Dev) (c : Copy) (v : View) (pages : List ℕ) → is_away S dev ≡ false → c.place ≡ Before → (c.alive ≡ true → c.rests pages (disk_now v dev)) → (c.alive ≡ false → v.now < top → (disk_now v dev).lost ≡ true) → CopyAt S pages None dev c v

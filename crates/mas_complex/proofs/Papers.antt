@@ -1,9 +1,8 @@
 -- What stands on paper through acts that print nothing, and while the journal grows.
-use Rattle.mas_complex.proofs.Names.{◌≡◌, ℕ, zero, suc, ◌+◌, ◌-◌, ◌≤◌, ◌<◌, ◌⊎◌, inl, inr, ◌&&◌, nat_le, Bool, true, false, if◌then◌else◌, List, [], ◌∷◌, ◌++◌, length, Option, Some, None, All, refl, subst, sym, ◌∙◌, ap, arith, le_refl, le_trans, append_assoc, max, Contains, slice_index_or, slice_set, list_any, nat_tests, append-nil, get_or-set_other, length-set, set_past, All-nil, All-cons, All-append, All-head, All-tail, MemberId, JobNo, OutNo, Text, Batch, Entry, Flying, Queue, is_kept, same_member, printed_line, IsSound, Book, is_stopped, IsGiven, View, World, Line, Goes, SamePaper, next, Counts, begins_anew, counts_anew, counts_after, AreAllowed, AreLinesOn, AreMarksOn, IsNextLine, same_member_is, test_cases, fewer, stays_on, marks_stay_on, entries_keep, step, run, kept, flying, kept_all, in_flight, entries_in, AreSettled, IsBegun, Papers, IsOnPaper, SamePapers, Account, account, PaperAt, turned, turned_last, count_from, LineAt, LineFrom, counts_of, ap₂, printed_after, AreGivenIn, KeepsPaper, ◌≢◌, ◌==◌, length-append, min, get_or-set_same, All-weaker, Contains-append_left, Contains-append_right, is_somebody, after_stop, paper_now, Prints, Said, Rose, top, Act, Done, Failed, ActHalted as Halted, one_more, MayPrint, IsOfOther, printed_by, book_by, IsOfItsMember, replicate, Kept, Dropped, is_flying, is_kept_by, members_most, output_at, none_printed, mark_of, printed_at, kept_of, no_counts, PaperKept, true≢false, either_way, ⊎_elim}
-use Rattle.mas_complex.proofs.Basics.{apart_is, Passes, passes_of, number_is, still_one}
+use Rattle.mas_complex.proofs.Names.{◌≡◌, ℕ, ◌+◌, ◌-◌, ◌≤◌, ◌<◌, ◌⊎◌, inl, inr, true, false, if◌then◌else◌, List, [], ◌∷◌, ◌++◌, length, Option, Some, None, All, refl, subst, sym, ◌∙◌, ap, arith, le_refl, append_assoc, max, Contains, slice_index_or, slice_set, list_any, nat_tests, append-nil, get_or-set_other, length-set, set_past, All-nil, All-cons, All-append, MemberId, JobNo, OutNo, Text, Batch, Entry, Flying, Queue, is_kept, same_member, printed_line, IsSound, Book, is_stopped, IsGiven, View, World, Line, Goes, SamePaper, next, Counts, begins_anew, counts_anew, counts_after, AreAllowed, AreLinesOn, AreMarksOn, IsNextLine, same_member_is, test_cases, fewer, stays_on, marks_stay_on, entries_keep, step, run, kept, flying, kept_all, in_flight, entries_in, AreSettled, IsBegun, Papers, IsOnPaper, SamePapers, Account, account, PaperAt, turned, turned_last, count_from, LineAt, LineFrom, counts_of, ap₂, printed_after, AreGivenIn, KeepsPaper, ◌≢◌, ◌==◌, length-append, get_or-set_same, All-weaker, Contains-append_left, Contains-append_right, is_somebody, after_stop, paper_now, Prints, Said, Rose, top, Act, Done, Failed, ActHalted as Halted, one_more, MayPrint, IsOfOther, printed_by, book_by, IsOfItsMember, Kept, Dropped, is_kept_by, members_most, output_at, none_printed, mark_of, kept_of, no_counts, PaperKept, true≢false, either_way, ⊎_elim, get_or-replicate, get_or_past, length-replicate, list_any_none, and_left as not_both, printed_upto, and_left}
+use Rattle.mas_complex.proofs.Basics.{apart_is, Passes, number_is, still_one, of_if, of_other}
 use Rattle.mas_complex.proofs.Batches.{account_before, account_fated, kept_all_append, account_now, account_after, turned_append, turned_by, turned_past}
 use Rattle.mas_complex.proofs.Fates.{one_kept}
-use Rattle.std.proofs.lemmas.Bool.{and_left as not_both, le-leb as at_le, or_from as nor}
 use Rattle.paper_laws.proofs.Printed.{lines_keep}
 use Rattle.paper_laws.proofs.Marked.{marks_answer}
 
@@ -17,13 +16,9 @@ pub given_flight : (base : Queue) (c : Option Batch) → All (IsGiven base) (ent
 given_flight base None are = tt
 given_flight base (Some b) are = (are, tt)
 
-given_if : (base : Queue) (b : Bool) (es : List Entry) → All (IsGiven base) es → All (IsGiven base) (if b then es else [])
-given_if base true es all = all
-given_if base false es all = All-nil (IsGiven base)
-
 pub given_kept_all : (base : Queue) (js : List Batch) → AreGivenIn base js → All (IsGiven base) (kept_all js)
 given_kept_all base [] are = All-nil (IsGiven base)
-given_kept_all base (b ∷ js) are = All-append (IsGiven base) (if is_kept b.fate then b.entries else []) (kept_all js) (given_if base (is_kept b.fate) b.entries are.0) (given_kept_all base js are.1)
+given_kept_all base (b ∷ js) are = All-append (IsGiven base) (if is_kept b.fate then b.entries else []) (kept_all js) (of_if (All (IsGiven base)) (is_kept b.fate) b.entries [] (λ _. are.0) (λ _. All-nil (IsGiven base))) (given_kept_all base js are.1)
 
 pub allowed_given : (base Q : Queue) (counts : Counts) (es : List Entry) → AreAllowed base Q counts es → All (IsGiven base) es
 allowed_given base Q counts [] are = All-nil (IsGiven base)
@@ -31,28 +26,20 @@ allowed_given base Q counts (e ∷ es) are = All-cons (IsGiven base) e es are.0.
 
 given_kept : (base : Queue) (js : List Batch) (t : ℕ) → AreGivenIn base js → All (IsGiven base) (kept js t)
 given_kept base [] t are = All-nil (IsGiven base)
-given_kept base (b ∷ js) t are = All-append (IsGiven base) (kept_of b t) (kept js t) (given_if base (is_kept_by t b) b.entries are.0) (given_kept base js t are.1)
+given_kept base (b ∷ js) t are = All-append (IsGiven base) (kept_of b t) (kept js t) (of_if (All (IsGiven base)) (is_kept_by t b) b.entries [] (λ _. are.0) (λ _. All-nil (IsGiven base))) (given_kept base js t are.1)
 
 -- LINES ON PAPER
 
+on_more : (p q : Papers) → ((m : ℕ) (l : Line) → Contains (p m) l → Contains (q m) l) → (n : JobNo) (i : OutNo) (line : ℕ) (text : Text) → IsOnPaper p n i line text → IsOnPaper q n i line text
+on_more p q more n i line text on = record { lines = on.lines; is = on.is; stands = record { printer = on.stands.printer; there = more on.stands.printer _ on.stands.there } }
+
 pub on_same : (p q : Papers) → ((m : ℕ) → q m ≡ p m) → (n : JobNo) (i : OutNo) (line : ℕ) (text : Text) → IsOnPaper p n i line text → IsOnPaper q n i line text
-on_same p q same n i line text on = record {
-  lines = on.lines;
-  is = on.is;
-  stands = record { printer = on.stands.printer; there = subst (λ (l : List Line). Contains l (record { text = printed_line n i line on.lines; whole = true })) (sym (same on.stands.printer)) on.stands.there };
-}
+on_same p q same = on_more p q (λ m l. subst (λ (ls : List Line). Contains ls l) (sym (same m)))
 
 -- what is more on a printer
 more_on : (p q : Papers) (m : ℕ) (l : Line) → q m ≡ p m ++ l ∷ [] → ((k : ℕ) → k ≢ m → q k ≡ p k) → (n : JobNo) (i : OutNo) (line : ℕ) (text : Text) → IsOnPaper p n i line text → IsOnPaper q n i line text
-more_on p q m l more others n i line text on = record { lines = on.lines; is = on.is; stands = record { printer = on.stands.printer; there = at on.stands.printer on.stands.there } } where
-  the_line : Line
-  the_line = record { text = printed_line n i line on.lines; whole = true }
-
-  at : (k : ℕ) → Contains (p k) the_line → Contains (q k) the_line
-  at k has = test_cases (k == m) (Contains (q k) the_line)
-      (λ e. let same : k ≡ m = number_is k m e in
-      subst (λ (j : ℕ). Contains (q j) the_line) (sym same) (subst (λ (ls : List Line). Contains ls the_line) (sym more) (Contains-append_left (p m) (l ∷ []) the_line (subst (λ (j : ℕ). Contains (p j) the_line) same has))))
-      (λ e. subst (λ (ls : List Line). Contains ls the_line) (sym (others k (λ same. apart_is k m e same))) has)
+more_on p q m l more others = on_more p q (of_other (λ k. (x : Line) → Contains (p k) x → Contains (q k) x) m
+    (λ x has. subst (λ (ls : List Line). Contains ls x) (sym more) (Contains-append_left (p m) (l ∷ []) x has)) (λ k ne x. subst (λ (ls : List Line). Contains ls x) (sym (others k ne))))
 
 -- one act that prints nothing
 pub same_papers : (old new : View) → Goes old new → new.now ≡ next old.now → SamePaper old new → SamePapers old new
@@ -80,19 +67,13 @@ module _ (base : Queue) (since : ℕ) (J : List Batch) (old new : View) (goes : 
     lines = λ m. line_past m t from lt (p.lines m);
   }
 
-not_same : (a b : MemberId) → (a ≡ b → ⊥) → same_member a b ≡ false
-not_same a b apart = test_cases (a.0 == b.0) (same_member a b ≡ false) (λ e. absurd (apart (same_member_is a b e))) (λ e. e)
-
 pub somebody_is : (m : MemberId) → 0 < m.0 → is_somebody m ≡ true
-somebody_is m some = somebody m.0 some
-  where
-    somebody : (n : ℕ) → 0 < n → is_somebody (record { 0 = n }) ≡ true
-    somebody n h = grind (arith, nat_tests)
+somebody_is m some = grind (arith, nat_tests)
 
 -- what is in flight is none of the member's
 pub none_in_flight : (m : MemberId) (c : Option Batch) → IsOfOther c m → IsOfItsMember c → All (λ e. same_member e.by m ≡ false) (entries_in c)
 none_in_flight m None apart own = All-nil (λ e. same_member e.by m ≡ false)
-none_in_flight m (Some b) apart own = All-weaker (λ (e : Entry). e.by ≡ b.by) (λ e. same_member e.by m ≡ false) (λ e is. rw is (not_same b.by m apart)) b.entries own
+none_in_flight m (Some b) apart own = All-weaker (λ (e : Entry). e.by ≡ b.by) (λ e. same_member e.by m ≡ false) (λ e is. rw is (test_cases (b.by.0 == m.0) (same_member b.by m ≡ false) (λ e. absurd (apart (same_member_is b.by m e))) (λ e. e))) b.entries own
 
 -- ACTS that take nothing off the printers
 
@@ -116,28 +97,21 @@ module _ (base : Queue) (since : ℕ) (js : List Batch) (c : Option Batch) (prin
   from_past : (m : MemberId) → (new.world (from_of m)).paper m.0 ≡ (old.world (from_of m)).paper m.0
   from_past m = ap (λ (w : World). w.paper m.0) (passes.past (from_of m) (turned_past m js c old.now since settled begun started))
 
-  acts_on_paper : (printed' : List ℕ) (book' : Book) → ((t : ℕ) → old.now ≤ t → t ≤ new.now → (n : JobNo) (i : OutNo) (line : ℕ) (text : Text) → Old n i line text → IsOnPaper (new.world t).paper n i line text)
+  acts_on_paper : (printed' : List ℕ) (book' : Book) → ((t : ℕ) → old.now ≤ t → t < new.now → (j : ℕ) → (new.world t).paper j ≡ (old.world old.now).paper j) → ((n : JobNo) (i : OutNo) (line : ℕ) (text : Text) → Old n i line text → New n i line text)
       → ((t : ℕ) → old.now ≤ t → t < new.now → (m : MemberId) → LineFrom base K (from_of m) new t m) → AreLinesOn New base (counts_of printed') K → AreLinesOn New base (counts_of printed') (K ++ F)
       → ((m : MemberId) → m.0 < length printed' → is_stopped book' m ≡ false → length ((new.world new.now).paper m.0) ≡ length ((new.world (from_of m)).paper m.0) + counts_of printed' m) → KeepsPaper base since js c (printed', book') new
-  acts_on_paper printed' book' on lines kept_lines coming_lines counted = record {
-    given = k.given;
-    coming_given = k.coming_given;
-    own = k.own;
-    past = λ t from lt. ⊎_elim
-        (λ (h : old.now ≤ t). subst (λ (s : Account). PaperAt base since s new t) (sym (account_now js c old.now t settled begun h))
-        (record { marks = marks_stay_on Old (IsOnPaper (new.world t).paper) base (K ++ F) (on t h (omega (arith, lt))) k.marks; lines = lines t h lt }))
-        (λ (h : t < old.now). on_paper_past base since (js ++ in_flight c) old new passes t from h (k.past t from h))
-        (either_way old.now t);
-    marks = marks_stay_on Old New base (K ++ F) (on new.now passes.later (le_refl new.now)) k.marks;
-    kept_lines = kept_lines;
-    coming_lines = coming_lines;
-    counted = counted;
-  }
+  acts_on_paper printed' book' still so lines kept_lines coming_lines counted =
+      let past : (t : ℕ) → since ≤ t → t < new.now → PaperAt base since (account (js ++ in_flight c) t) new t = λ t from lt. ⊎_elim
+      (λ (h : old.now ≤ t). subst (λ (s : Account). PaperAt base since s new t) (sym (account_now js c old.now t settled begun h))
+      (record { marks = marks_stay_on Old (IsOnPaper (new.world t).paper) base (K ++ F) (on_same (old.world old.now).paper (new.world t).paper (still t h lt)) k.marks; lines = lines t h lt }))
+      (λ (h : t < old.now). on_paper_past base since (js ++ in_flight c) old new passes t from h (k.past t from h))
+      (either_way old.now t) in
+      assumption (k, past, marks_stay_on Old New base (K ++ F) so k.marks, kept_lines, coming_lines, counted)
 
   -- and print nothing, with a book in which nobody who was stopped is up
   module _ (book' : Book) (up : (m : MemberId) → is_stopped book' m ≡ false → is_stopped book m ≡ false) where
     pub passes_on_paper : SamePapers old new → KeepsPaper base since js c (printed, book') new
-    passes_on_paper same = acts_on_paper printed book' (λ t from le. on_same (old.world old.now).paper (new.world t).paper (same t from le))
+    passes_on_paper same = acts_on_paper printed book' (λ t from lt. same t from (omega (arith, lt))) so
         (λ t from lt m. inl (same (t + 1) (omega (arith, from)) (omega (arith, lt)) m.0 ∙ sym (same t from (omega (arith, lt)) m.0)))
         (stays_on Old New base (counts_of printed) K so k.kept_lines) (stays_on Old New base (counts_of printed) (K ++ F) so k.coming_lines)
         (λ m few is. rw (same new.now passes.later (le_refl new.now) m.0, from_past m) (k.counted m few (up m is))) where
@@ -155,11 +129,7 @@ module _ (base : Queue) (since : ℕ) (js : List Batch) (c : Option Batch) (prin
       line_on_paper : (printed' : List ℕ) (book' : Book) → (l.whole ≡ true → l.text ≡ bytes) → (l.whole ≡ false → 0 < new.stops m.0) → AreLinesOn New base (counts_of printed') K → AreLinesOn New base (counts_of printed') (K ++ F)
           → ((j : MemberId) → j.0 < length printed' → is_stopped book' j ≡ false → length ((new.world new.now).paper j.0) ≡ length ((new.world (from_of j)).paper j.0) + counts_of printed' j) → KeepsPaper base since js c (printed', book') new
       line_on_paper printed' book' whole torn = acts_on_paper printed' book'
-          (λ t from le. ⊎_elim
-          (λ (h : t ≤ old.now). let at : t ≡ old.now = omega (arith, h, from) in subst (λ (n : ℕ). (i : JobNo) (o : OutNo) (line : ℕ) (text : Text) → Old i o line text → IsOnPaper (new.world n).paper i o line text) (sym at)
-          (on_same (old.world old.now).paper (new.world old.now).paper past))
-          (λ (h : old.now < t). let at : t ≡ new.now = omega (arith, h, le, time) in subst (λ (n : ℕ). (i : JobNo) (o : OutNo) (line : ℕ) (text : Text) → Old i o line text → IsOnPaper (new.world n).paper i o line text) (sym at) so)
-          (either_way t old.now))
+          (λ t from lt j. let at : t ≡ old.now = omega (arith, from, lt, time) in ap (λ (n : ℕ). (new.world n).paper j) at ∙ past j) so
           (λ t from lt j. let at : t ≡ old.now = omega (arith, from, lt, time) in subst (λ (n : ℕ). LineFrom base K (from_of j) new n j) (sym at) (new_line j))
         where
           past : (j : ℕ) → (new.world old.now).paper j ≡ (old.world old.now).paper j
@@ -172,15 +142,12 @@ module _ (base : Queue) (since : ℕ) (js : List Batch) (c : Option Batch) (prin
           count = let a = ap length (past m.0) in let b = ap length (from_past m) in omega (arith, a, b, k.counted m few up)
 
           new_line : (j : MemberId) → LineFrom base K (from_of j) new old.now j
-          new_line j = test_cases (j.0 == m.0) (LineFrom base K (from_of j) new old.now j)
-              (λ e. let same : j ≡ m = same_member_is j m e in
-              subst (λ (x : MemberId). LineFrom base K (from_of x) new old.now x) (sym same) (inr (record {
-                line = l;
-                more = at_new m.0 ∙ more ∙ ap (λ (ls : List Line). ls ++ l ∷ []) (sym (past m.0));
-                next = λ w. rw (count, whole w) may.next;
-                torn = torn;
-              })))
-              (λ e. inl (at_new j.0 ∙ others j.0 (λ same. apart_is j.0 m.0 e same) ∙ sym (past j.0)))
+          new_line j = of_other (λ n. LineFrom base K (from_of (record { 0 = n })) new old.now (record { 0 = n })) m.0 (inr (record {
+            line = l;
+            more = at_new m.0 ∙ more ∙ ap (λ (ls : List Line). ls ++ l ∷ []) (sym (past m.0));
+            next = λ w. rw (count, whole w) may.next;
+            torn = torn;
+          })) (λ n ne. inl (at_new n ∙ others n ne ∙ sym (past n))) j.0
 
       -- the counts of others, whose printers keep their lines
       other_counted : (j : MemberId) → j.0 ≢ m.0 → j.0 < length printed → is_stopped book j ≡ false → length ((new.world new.now).paper j.0) ≡ length ((new.world (from_of j)).paper j.0) + counts_of printed j
@@ -198,34 +165,24 @@ module _ (base : Queue) (since : ℕ) (js : List Batch) (c : Option Batch) (prin
           (lines_keep Old New base (counts_of printed) K [] m may.next.output sound (given_kept_all base js k.given) (All-nil _) some (All-nil _) may.next.busy so line_on (subst (λ (es : List Entry). AreLinesOn Old base (counts_of printed) es) (sym (append-nil K)) k.kept_lines))))
           (subst (λ (cs : Counts). AreLinesOn New base cs (K ++ F)) (sym counts_is) (lines_keep Old New base (counts_of printed) K F m may.next.output sound (given_kept_all base js k.given) k.coming_given some (none_in_flight m c apart k.own) may.next.busy so line_on k.coming_lines))
           (λ j inside is_up. let inside' : j.0 < length printed = subst (λ (n : ℕ). j.0 < n) (length-set printed m.0 (counts_of printed m + 1)) inside in
-          test_cases (same_member j m) (length ((new.world new.now).paper j.0) ≡ length ((new.world (from_of j)).paper j.0) + counts_of printed' j)
-          (λ e. let same : j ≡ m = same_member_is j m e in subst (λ (x : MemberId). length ((new.world new.now).paper x.0) ≡ length ((new.world (from_of x)).paper x.0) + counts_of printed' x) (sym same) own_counted)
-          (λ e. rw (get_or-set_other printed m.0 j.0 (counts_of printed m + 1) 0 (λ same. apart_is j.0 m.0 e same)) (other_counted j (λ same. apart_is j.0 m.0 e same) inside' is_up)))
+          of_other (λ n. n < length printed → is_stopped book (record { 0 = n }) ≡ false → length ((new.world new.now).paper n) ≡ length ((new.world (from_of (record { 0 = n }))).paper n) + counts_of printed' (record { 0 = n })) m.0 (λ _ _. own_counted)
+          (λ n ne inside is_up. rw (get_or-set_other printed m.0 n (counts_of printed m + 1) 0 ne) (other_counted (record { 0 = n }) ne inside is_up)) j.0 inside' is_up)
         where
           printed' : List ℕ
           printed' = slice_set printed m.0 (counts_of printed m + 1)
 
           own_counted : length ((new.world new.now).paper m.0) ≡ length ((new.world (from_of m)).paper m.0) + counts_of printed' m
-          own_counted =
-              let a = ap length more ∙ length-append ((old.world old.now).paper m.0) (l ∷ []) in
-              let b = ap length (from_past m) in
-              let n = get_or-set_same printed m.0 (counts_of printed m + 1) 0 few in
-              omega (arith, a, b, n, k.counted m few up)
+          own_counted = omega (arith, ap length more ∙ length-append ((old.world old.now).paper m.0) (l ∷ []), ap length (from_past m), get_or-set_same printed m.0 (counts_of printed m + 1) 0 few, k.counted m few up)
 
           counts_is : counts_of printed' ≡ one_more m (counts_of printed)
-          counts_is = λ i j. at j i where
-            at : (j : MemberId) → counts_of printed' j ≡ one_more m (counts_of printed) j
-            at j = test_cases (same_member j m) (counts_of printed' j ≡ one_more m (counts_of printed) j)
-                (λ e. let same : j.0 ≡ m.0 = number_is j.0 m.0 e in rw (e, same) (get_or-set_same printed m.0 (counts_of printed m + 1) 0 few))
-                (λ e. rw e (get_or-set_other printed m.0 j.0 (counts_of printed m + 1) 0 (λ same. apart_is j.0 m.0 e same)))
+          counts_is = λ i j. test_cases (same_member j m) (counts_of printed' j ≡ one_more m (counts_of printed) j)
+              (λ e. let same : j.0 ≡ m.0 = number_is j.0 m.0 e in rw (e, same) (get_or-set_same printed m.0 (counts_of printed m + 1) 0 few))
+              (λ e. rw e (get_or-set_other printed m.0 j.0 (counts_of printed m + 1) 0 (λ same. apart_is j.0 m.0 e same))) i
 
           line_on : New may.next.output.job may.next.output.index (may.next.output.mark + counts_of printed m + 1) may.next.output.text
-          line_on = record { lines = may.next.lines; is = may.next.text; stands = record { printer = m.0; there = subst (λ (ls : List Line). Contains ls the_line) (sym (more ∙ ap (λ (x : Line). (old.world old.now).paper m.0 ++ x ∷ []) line_is)) (Contains-append_right ((old.world old.now).paper m.0) (the_line ∷ []) the_line (0, omega arith, refl)) } } where
+          line_on = record { lines = may.next.lines; is = may.next.text; stands = record { printer = m.0; there = subst (λ (ls : List Line). Contains ls the_line) (sym (more ∙ ap (λ (x : Line). (old.world old.now).paper m.0 ++ x ∷ []) (is ∙ ap (λ (bs : List ℕ). record { text = bs; whole = true }) may.next.is))) (Contains-append_right ((old.world old.now).paper m.0) (the_line ∷ []) the_line (0, omega arith, refl)) } } where
             the_line : Line
             the_line = record { text = printed_line may.next.output.job may.next.output.index (may.next.output.mark + counts_of printed m + 1) may.next.lines; whole = true }
-
-            line_is : l ≡ the_line
-            line_is = is ∙ ap (λ (bs : List ℕ). record { text = bs; whole = true }) may.next.is
 
     -- the answer
     pub prints_on_paper : (result : Act) → new.now ≡ next old.now → (old.now ≡ top → result ≡ Failed) → (result ≡ Halted → Rose (old.stops m.0) (new.stops m.0)) → Prints m.0 bytes old new result → ((j : MemberId) → is_stopped (after_stop book m) j ≡ false → (j.0 ≢ m.0) × (is_stopped book j ≡ false))
@@ -233,14 +190,10 @@ module _ (base : Queue) (since : ℕ) (js : List Batch) (c : Option Batch) (prin
     prints_on_paper result time last halts prints rest = by result prints.paper last halts
       where
         same_paper : paper_now new m.0 ≡ paper_now old m.0 → SamePaper old new
-        same_paper is j = test_cases (j == m.0) (paper_now new j ≡ paper_now old j)
-            (λ e. let same : j ≡ m.0 = number_is j m.0 e in subst (λ (n : ℕ). paper_now new n ≡ paper_now old n) (sym same) is)
-            (λ e. prints.others j (λ same. apart_is j m.0 e same))
+        same_paper is = of_other (λ j. paper_now new j ≡ paper_now old j) m.0 is prints.others
 
         one_later : (old.now ≢ top) → new.now ≡ old.now + 1
-        one_later below = later old.now new.now passes.later time below where
-          later : (now new : ℕ) → now ≤ new → new ≡ min (now + 1) top → now ≢ top → new ≡ now + 1
-          later now new le is below = omega arith
+        one_later below = omega (arith, passes.later, time, below)
 
         still : (book' : Book) → ((j : MemberId) → is_stopped book' j ≡ false → is_stopped book j ≡ false) → paper_now new m.0 ≡ paper_now old m.0 → KeepsPaper base since js c (printed, book') new
         still book' is_up is = passes_on_paper book' is_up (same_papers old new goes time (same_paper is))
@@ -255,38 +208,15 @@ module _ (base : Queue) (since : ℕ) (js : List Batch) (c : Option Batch) (prin
 -- COUNTS
 
 zero_at : (l : List ℕ) (i : ℕ) → slice_index_or (slice_set l i 0) i 0 ≡ 0
-zero_at [] i = refl
-zero_at (x ∷ l) zero = refl
-zero_at (x ∷ l) (suc i) = zero_at l i
-
--- a count past the last one changes nothing
-pub past_same : (l : List ℕ) (i : ℕ) → length l ≤ i → l ≡ slice_set l i 0
-past_same l i past = sym (set_past l i 0 past)
+zero_at l i = ⊎_elim (λ (past : length l ≤ i). rw (set_past l i 0 past) (get_or_past l i 0 past)) (λ (lt : i < length l). get_or-set_same l i 0 0 lt) (either_way (length l) i)
 
 -- what a batch of a member leaves of the counts
 pub counts_set : (m by : MemberId) (es : List Entry) (printed : List ℕ) → All (λ e. e.by ≡ by) es → counts_of (printed_after by es printed) m ≡ counts_after es (counts_of printed) m
 counts_set m by es printed own =
     test_cases (same_member by m) (counts_of (printed_after by es printed) m ≡ counts_after es (counts_of printed) m)
-    (λ e. let is : by ≡ m = same_member_is by m e in
-    subst (λ (x : MemberId). counts_of (printed_after x es printed) m ≡ counts_after es (counts_of printed) m) (sym is) (own_set m))
-    (λ e. test_cases (list_any (begins_anew by) es) (counts_of (printed_after by es printed) m ≡ counts_after es (counts_of printed) m)
-    (λ a. let was : counts_of (printed_after by es printed) m ≡ counts_of printed m = rw a (get_or-set_other printed by.0 m.0 0 0 (λ same. apart_is by.0 m.0 e (sym same))) in was ∙ sym (others e))
-    (λ a. let was : counts_of (printed_after by es printed) m ≡ counts_of printed m = rw a refl in was ∙ sym (others e)))
-  where
-    own_set : (m : MemberId) → counts_of (printed_after m es printed) m ≡ counts_after es (counts_of printed) m
-    own_set m = test_cases (list_any (begins_anew m) es) (counts_of (printed_after m es printed) m ≡ counts_after es (counts_of printed) m)
-        (λ a. rw a (zero_at printed m.0))
-        (λ a. rw a refl)
-
-    none_of : same_member by m ≡ false → (es : List Entry) → All (λ e. e.by ≡ by) es → list_any (begins_anew m) es ≡ false
-    none_of e [] own = refl
-    none_of e (x ∷ es) own =
-        let mine : x.by ≡ by = All-head (λ (y : Entry). y.by ≡ by) x es own in
-        nor (begins_anew m x) (list_any (begins_anew m) es) (not_both (same_member x.by m) (counts_anew x.command) (subst (λ (k : MemberId). same_member k m ≡ false) (sym mine) e))
-        (none_of e es (All-tail (λ (y : Entry). y.by ≡ by) x es own))
-
-    others : same_member by m ≡ false → counts_after es (counts_of printed) m ≡ counts_of printed m
-    others e = let none : list_any (begins_anew m) es ≡ false = none_of e es own in rw none refl
+    (λ e. subst (λ (x : MemberId). counts_of (printed_after x es printed) m ≡ counts_after es (counts_of printed) m) (sym (same_member_is by m e))
+    (test_cases (list_any (begins_anew m) es) (counts_of (printed_after m es printed) m ≡ counts_after es (counts_of printed) m) (λ a. rw a (zero_at printed m.0)) (λ a. rw a refl)))
+    (λ e. rw (list_any_none (begins_anew m) es (λ k d lt. let x = slice_index_or es k d in and_left (same_member x.by m) (counts_anew x.command) (subst (λ (n : MemberId). same_member n m ≡ false) (sym (own k d lt)) e))) (test_cases (list_any (begins_anew by) es) (counts_of (printed_after by es printed) m ≡ counts_of printed m) (λ a. rw a (get_or-set_other printed by.0 m.0 0 0 (λ same. apart_is by.0 m.0 e (sym same)))) (λ a. rw a refl)))
 
 -- A BATCH BEGINS
 
@@ -304,17 +234,14 @@ module _ (base : Queue) (since : ℕ) (js : List Batch) (b : Batch) (printed : L
     own = own;
     past = λ t from lt. subst (λ (s : Account). PaperAt base since s v t) (sym (account_after js (b ∷ []) [] t (account_before b t flies (omega (arith, first, lt))))) (k.past t from lt);
     marks = both.1;
-    kept_lines = subst (λ (cs : Counts). AreLinesOn On base cs (kept_all js)) (sym counts) (fewer On base (counts_of printed) (counts_after es (counts_of printed)) (kept_all js) after_le k.kept_lines);
+    kept_lines = subst (λ (cs : Counts). AreLinesOn On base cs (kept_all js)) (sym counts) (fewer On base (counts_of printed) (counts_after es (counts_of printed)) (kept_all js) (λ m. test_cases (list_any (begins_anew m) es) (counts_after es (counts_of printed) m ≤ counts_of printed m) (λ a. rw a (omega arith)) (λ a. rw a (le_refl (counts_of printed m)))) k.kept_lines);
     coming_lines = subst (λ (cs : Counts). AreLinesOn On base cs (kept_all js ++ es)) (sym counts) both.0;
     counted = λ m few up. test_cases (list_any (begins_anew m) es) (length ((v.world v.now).paper m.0) ≡ length ((v.world (turned_last m (js ++ b ∷ []) since)).paper m.0) + counts_of (printed_after b.by es printed) m)
         (λ a. rw (turned_append m js (b ∷ []) since, counts_set m b.by es printed own, a, last m) (omega arith))
-        (λ a. rw (turned_append m js (b ∷ []) since, counts_set m b.by es printed own, a) (subst (λ (l : List Batch). length ((v.world v.now).paper m.0) ≡ length ((v.world (turned_last m l since)).paper m.0) + counts_of printed m) (append-nil js) (k.counted m (subst (λ (n : ℕ). m.0 < n) same_length few) up)));
+        (λ a. rw (turned_append m js (b ∷ []) since, counts_set m b.by es printed own, a) (subst (λ (l : List Batch). length ((v.world v.now).paper m.0) ≡ length ((v.world (turned_last m l since)).paper m.0) + counts_of printed m) (append-nil js) (k.counted m (subst (λ (n : ℕ). m.0 < n) (test_cases (list_any (begins_anew b.by) es) (length (printed_after b.by es printed) ≡ length printed) (λ a. rw a (length-set printed b.by.0 0)) (λ a. rw a refl)) few) up)));
   } where
     counts : counts_of (printed_after b.by es printed) ≡ counts_after es (counts_of printed)
     counts = λ i m. counts_set m b.by es printed own i
-
-    after_le : (m : MemberId) → counts_after es (counts_of printed) m ≤ counts_of printed m
-    after_le m = test_cases (list_any (begins_anew m) es) (counts_after es (counts_of printed) m ≤ counts_of printed m) (λ a. rw a (omega arith)) (λ a. rw a (le_refl (counts_of printed m)))
 
     -- the marks and lines of the kept entries, and those with the batch
     both : AreLinesOn On base (counts_after es (counts_of printed)) (kept_all js ++ es) × AreMarksOn On base (kept_all js ++ es)
@@ -322,9 +249,6 @@ module _ (base : Queue) (since : ℕ) (js : List Batch) (b : Batch) (printed : L
 
     last : (m : MemberId) → max (turned_last m js since) b.first ≡ v.now
     last m = let past = subst (λ (l : List Batch). turned_last m l since ≤ v.now) (append-nil js) (turned_past m js None v.now since settled tt started) in omega (arith, past, first)
-
-    same_length : length (printed_after b.by es printed) ≡ length printed
-    same_length = test_cases (list_any (begins_anew b.by) es) (length (printed_after b.by es printed) ≡ length printed) (λ a. rw a (length-set printed b.by.0 0)) (λ a. rw a refl)
 
 -- A BATCH GETS ITS FATE: what is kept of it is all of it or nothing
 
@@ -363,21 +287,13 @@ makes_paper base since book v is = record {
   counted = λ m few up. rw (is, zeros m) (omega arith);
 } where
   zeros : (m : MemberId) → counts_of no_counts m ≡ 0
-  zeros m = zero_of m.0 (members_most + 1)
-    where
-      zero_of : (i n : ℕ) → counts_of (replicate n 0) (record { 0 = i }) ≡ 0
-      zero_of i zero = refl
-      zero_of zero (suc n) = refl
-      zero_of (suc i) (suc n) = zero_of i n
+  zeros m = ⊎_elim (λ (past : members_most + 1 ≤ m.0). get_or_past no_counts m.0 0 (omega (arith, past, length-replicate {A = ℕ} (members_most + 1) 0))) (λ (lt : m.0 < members_most + 1). get_or-replicate {A = ℕ} (members_most + 1) m.0 0 0 lt) (either_way (members_most + 1) m.0)
 
   -- no line is after the base's own marks
   no_lines : (counts : Counts) → ((m : MemberId) → counts m ≡ 0) → AreLinesOn (IsOnPaper (v.world v.now).paper) base counts []
   no_lines counts all n i o found un line low high =
       let found' : mark_of (output_at base n i) ≡ o.mark = rw found refl in
-      absurd (omega (arith, low, high, found', none_at o.busy))
-    where
-      none_at : (m : MemberId) → printed_at counts m ≡ 0
-      none_at m = test_cases (is_somebody m) (printed_at counts m ≡ 0) (λ e. rw e (all m)) (λ e. rw e refl)
+      absurd (omega (arith, low, high, found', printed_upto counts o.busy, all o.busy))
 
   no_marks : (before after : List Entry) → [] ≡ before ++ after → AreLinesOn (IsOnPaper (v.world v.now).paper) base none_printed before
   no_marks [] after e = no_lines none_printed (λ m. refl)

@@ -1,6 +1,6 @@
 -- The present: what both copies read gives what a start finds.
-use Rattle.mas_complex.proofs.Names.{unwrap_or, or_cases, IsReadBy, is_good, read_left, ◌≡◌, ◌⊎◌, inl, inr, ℕ, ◌+◌, ◌≤◌, ◌<◌, ◌==◌, ◌&&◌, ◌||◌, nat_lt, Bool, true, false, if◌then◌else◌, List, ◌++◌, Option, Some, None, refl, subst, sym, ◌∙◌, ap, arith, le_refl, not, and_from, eq-eqb, nat_tests, Dev, Disk as DiskPart, View, ViewDisk as Disk, IsImage, disk_now, top, AllRead, EachReads, level, Entry, Place, Before, Put, Opened, Unsure, is_renewed_at, Setting, IsLeft, SomeGood, found, IsFound, Stands, IsOneOf, ReadsOne, ReadsBy, Alike, OnComing, IsAt, IsAway, lost_if, left_at, Ckpt1, Ckpt2, Copy, CopyAt, is_away, of_device, ◌∷◌, length, get_or, set, map, take, drop, Result, Ok, Err, OnOk, OnErr, add-one, append_assoc, drop-cons, take_more_set, drop-set-lt, is_none, le-leb, Renewal, has_ended, is_open, HasEndedBy, AreRenewedBy, suc, ◌*◌, IfSome, Batch, Kept, is_kept, World, disk_at, either_way, batches_kept, IsNear, RaisesOrders, ReadsAtLevel, ReadsUpTo, next_order, orders_most, IsCkpt, Versions, ⊎_elim, [], true≢false, ∥∥₁_elim}
-use Rattle.duplex_pair.specs.Finds.{best}
+use Rattle.mas_complex.proofs.Names.{Span, unwrap_or, or_cases, IsReadBy, is_good, read_left, ◌≡◌, ◌⊎◌, inl, inr, ℕ, ◌+◌, ◌≤◌, ◌<◌, ◌==◌, ◌&&◌, ◌||◌, nat_lt, Bool, true, false, List, ◌++◌, Option, Some, None, refl, subst, sym, ◌∙◌, ap, arith, le_refl, not, and_from, eq-eqb, nat_tests, Dev, Disk as DiskPart, View, ViewDisk as Disk, IsImage, disk_now, top, AllRead, EachReads, level, Entry, Place, Before, Put, Opened, Unsure, is_renewed_at, Setting, IsLeft, SomeGood, found, IsFound, Stands, IsOneOf, ReadsOne, ReadsBy, Alike, OnComing, IsAt, IsAway, lost_if, left_at, Ckpt1, Ckpt2, Copy, CopyAt, is_away, ◌∷◌, length, get_or, set, map, take, drop, Result, Ok, Err, OnOk, OnErr, append_assoc, take_more_set, drop-set-lt, is_none, le-leb, Renewal, has_ended, is_open, HasEndedBy, AreRenewedBy, suc, ◌*◌, IfSome, Batch, is_kept, batches_kept, IsNear, RaisesOrders, ReadsAtLevel, ReadsUpTo, next_order, orders_most, Versions, ⊎_elim, [], true≢false, ∥∥₁_elim, test_cases, drop_more, best, eqb-false, ◌≢◌}
+use Rattle.mas_complex.proofs.Basics.{of_if}
 
 -- what holds of the kept pages, and of those in flight, holds of those that an image reads as
 pub of_one : (P Q : List ℕ → Type 0) (was : List ℕ) (coming : Option (List ℕ)) (pages : List ℕ) → P was → IfSome coming Q → ((p : List ℕ) → Q p → P p) → IsOneOf was coming (Some pages) → P pages
@@ -21,12 +21,6 @@ left_reads S was coming renewed d None reads left = subst (λ (l : Bool). IsRead
 left_reads S was coming false d (Some image) reads left = subst (λ (l : Bool). IsReadBy (not (not l && true)) was coming (S.reads image)) (sym left.there) (reads image left)
 left_reads S was coming true d (Some image) reads left = subst (λ (l : Bool). IsReadBy (not (not l && false)) was coming (S.reads image)) (sym left.there) (reads image left)
 
-second_up : (a b l : ℕ) → nat_lt a b ≡ true → l ≤ a → l ≤ b
-second_up a b l e le = let h : a < b = grind (arith, nat_tests) in omega arith
-
-first_up : (a b l : ℕ) → nat_lt a b ≡ false → l ≤ b → l ≤ a
-first_up a b l e le = let h : b ≤ a = grind (arith, nat_tests) in omega arith
-
 -- of two images one isn't stale: the pages that a start finds are the kept ones, or those in flight
 module _ (was : List ℕ) (coming : Option (List ℕ)) (low : (pages : List ℕ) → IsOneOf was coming (Some pages) → level was ≤ level pages) where
   sure : (stale : Bool) (q : Option (List ℕ)) → stale ≡ false → IsReadBy stale was coming q → IsOneOf was coming q
@@ -40,24 +34,17 @@ module _ (was : List ℕ) (coming : Option (List ℕ)) (low : (pages : List ℕ)
   best_one : (a b : Bool) (one two : Option (List ℕ)) → IsReadBy a was coming one → IsReadBy b was coming two → (a ≡ false) ⊎ (b ≡ false) → IsOneOf was coming (best one two)
   best_one a b None two is also good = ⊎_elim (λ e. absurd (sure a None e is)) (λ e. sure b two e also) good
   best_one a b (Some one) None is also good = ⊎_elim (λ e. sure a (Some one) e is) (λ e. absurd (sure b None e also)) good
-  best_one a b (Some one) (Some two) is also good = by_test (nat_lt (level one) (level two)) refl where
-    by_test : (c : Bool) → nat_lt (level one) (level two) ≡ c → IsOneOf was coming (if c then Some two else Some one)
-    by_test true lt = not_lower b two also (⊎_elim (λ e. second_up (level one) (level two) (level was) lt (low one (sure a (Some one) e is))) (λ e. low two (sure b (Some two) e also)) good)
-    by_test false ge = not_lower a one is (⊎_elim (λ e. low one (sure a (Some one) e is)) (λ e. first_up (level one) (level two) (level was) ge (low two (sure b (Some two) e also))) good)
+  best_one a b (Some one) (Some two) is also good = of_if (IsOneOf was coming) (nat_lt (level one) (level two)) (Some two) (Some one)
+      (λ lt. not_lower b two also (⊎_elim (λ e. let h : level one < level two = grind (arith, nat_tests, lt) in omega (arith, h, low one (sure a (Some one) e is))) (λ e. low two (sure b (Some two) e also)) good))
+      (λ ge. not_lower a one is (⊎_elim (λ e. low one (sure a (Some one) e is)) (λ e. let h : level two ≤ level one = grind (arith, nat_tests, ge) in omega (arith, h, low two (sure b (Some two) e also))) good))
 
 -- what a start finds of two devices that agree stands for the queue after the kept entries, or with those in flight
-pub alike_found : {l order most : ℕ} (S : Setting) (K F : List Entry) (t : ℕ) (disks : Dev → Disk) → Alike S l order most K F t disks → (one two : Option (List ℕ)) → IsLeft (disks Ckpt1) one → IsLeft (disks Ckpt2) two
+pub alike_found : {span : Span} (S : Setting) (K F : List Entry) (t : ℕ) (disks : Dev → Disk) → Alike S span K F t disks → (one two : Option (List ℕ)) → IsLeft (disks Ckpt1) one → IsLeft (disks Ckpt2) two
     → SomeGood (is_renewed_at S.renewals.first t) (is_renewed_at S.renewals.second t) (disks Ckpt1) (disks Ckpt2) → IsFound S K (found S one two) ⊎ IsFound S (K ++ F) (found S one two)
 alike_found S K F t disks a one two left right good = stands (found S one two)
     (best_one a.pages.was a.pages.coming (λ pages. of_one (λ p. level a.pages.was ≤ level p) (Stands S (a.reached + 1) (K ++ F)) a.pages.was a.pages.coming pages (le_refl (level a.pages.was)) a.pages.comes (λ p s. omega (arith, a.pages.stands.at_level, s.at_level)))
-    (not good1) (not good2) (read_left S.reads one) (read_left S.reads two) (left_reads S a.pages.was a.pages.coming (is_renewed_at S.renewals.first t) (disks Ckpt1) one (a.reads Ckpt1 tt) left) (left_reads S a.pages.was a.pages.coming (is_renewed_at S.renewals.second t) (disks Ckpt2) two (a.reads Ckpt2 tt) right)
-    (⊎_elim (λ e. inl (ap not e)) (λ e. inr (ap not e)) (or_cases good1 good2 good))) where
-      good1 : Bool
-      good1 = is_good (is_renewed_at S.renewals.first t) (disks Ckpt1)
-
-      good2 : Bool
-      good2 = is_good (is_renewed_at S.renewals.second t) (disks Ckpt2)
-
+    _ _ (read_left S.reads one) (read_left S.reads two) (left_reads S a.pages.was a.pages.coming (is_renewed_at S.renewals.first t) (disks Ckpt1) one (a.reads Ckpt1 tt) left) (left_reads S a.pages.was a.pages.coming (is_renewed_at S.renewals.second t) (disks Ckpt2) two (a.reads Ckpt2 tt) right)
+    (⊎_elim (λ e. inl (ap not e)) (λ e. inr (ap not e)) (or_cases _ _ good))) where
       stands : (q : Option (List ℕ)) → IsOneOf a.pages.was a.pages.coming q → IsFound S K q ⊎ IsFound S (K ++ F) q
       stands None is = absurd is
       stands (Some pages) is = of_one (λ p. S.stand (S.run S.base K) p ⊎ S.stand (S.run S.base (K ++ F)) p) (Stands S (a.reached + 1) (K ++ F)) a.pages.was a.pages.coming pages (inl a.pages.stands.queue) a.pages.comes (λ p s. inr s.queue) is
@@ -91,26 +78,20 @@ module _ (S : Setting) (was : List ℕ) where
   pub not_renewed : (renewed : Bool) (coming : Option (List ℕ)) (d : Disk) → renewed ≡ false → ReadsOne S was coming d → ReadsBy S renewed was coming d
   not_renewed renewed coming d e reads = subst (λ (b : Bool). ReadsBy S b was coming d) (sym e) reads
 
-  -- a copy that wasn't being replaced and was lost
-  pub away_lost : (renewed : Bool) (now : ℕ) (d : Disk) → renewed ≡ false → (now < top → d.lost ≡ true) → IsAway S was renewed now d
-  away_lost renewed now d e lost = subst (λ (b : Bool). IsAway S was b now d) (sym e) lost
-
   -- a copy that counts as lost, whose device stays as it is, or leaves no more images
   pub away_moved : (renewed : Bool) (now later : ℕ) (d e : Disk) → now ≤ later → (d.lost ≡ true → e.lost ≡ true) → ((image : List ℕ) → IsImage e image → IsImage d image) → IsAway S was renewed now d → IsAway S was renewed later e
   away_moved false now later d e le lost less away = λ lt. lost (away (omega (arith, le, lt)))
   away_moved true now later d e le lost less away = λ image is. away image (less image is)
-
-  pub away_same : (renewed : Bool) (now later : ℕ) (d e : Disk) → now ≤ later → e ≡ d → IsAway S was renewed now d → IsAway S was renewed later e
-  away_same renewed now later d e le same = away_moved renewed now later d e le (λ lost. ap (λ (x : Disk). x.lost) same ∙ lost) (λ image is. subst (λ (x : Disk). IsImage x image) same is)
 
   -- a copy that counts as lost
   pub away_reads : (renewed : Bool) (coming : Option (List ℕ)) (now : ℕ) (d : Disk) → now < top → IsAway S was renewed now d → ReadsBy S renewed was coming d
   away_reads false coming now d lt away = lost_by false coming d (away lt)
   away_reads true coming now d lt away = away
 
-  away_top : (renewed : Bool) (coming : Option (List ℕ)) (now : ℕ) (b lost : Bool) (d : Disk) → b ≡ true → (renewed ≡ false → lost ≡ true) → IsAway S was renewed now d → ReadsBy S renewed was coming (lost_if (b && lost) d)
-  away_top false coming now b lost d e gone away = lost_by false coming (lost_if (b && lost) d) (ap (λ (c : Bool). (lost_if c d).lost) (and_from b lost e (gone refl)))
-  away_top true coming now b lost d e gone away = less_reads true coming (b && lost) d away
+  away_left : (renewed : Bool) (coming : Option (List ℕ)) (now : ℕ) (b lost : Bool) (d : Disk) → (b ≡ false → now < top) → (renewed ≡ false → lost ≡ true) → IsAway S was renewed now d → ReadsBy S renewed was coming (lost_if (b && lost) d)
+  away_left renewed coming now false lost d below gone away = away_reads renewed coming now d (below refl) away
+  away_left false coming now true lost d below gone away = lost_by false coming (lost_if lost d) (ap (λ (c : Bool). (lost_if c d).lost) (gone refl))
+  away_left true coming now true lost d below gone away = less_reads true coming lost d away
 
   module _ (c : Copy) (laws : Reads S.reads c) (coming : Option (List ℕ)) where
     pub side_reads : (place : Place) (d : Disk) → IsAt S c was coming place d → ReadsOne S was coming d
@@ -124,17 +105,12 @@ module _ (S : Setting) (was : List ℕ) where
       alive_reads is = not_renewed (is_away S dev) coming (disk_now v dev) (copy.formed is) (side_reads c.place (disk_now v dev) (copy.at is))
 
       pub copy_reads : v.now < top → ReadsBy S (is_away S dev) was coming (disk_now v dev)
-      copy_reads lt = by_alive c.alive refl where
-        by_alive : (b : Bool) → c.alive ≡ b → ReadsBy S (is_away S dev) was coming (disk_now v dev)
-        by_alive true is = alive_reads is
-        by_alive false is = away_reads (is_away S dev) coming v.now (disk_now v dev) lt (copy.gone is)
+      copy_reads lt = test_cases c.alive (ReadsBy S (is_away S dev) was coming (disk_now v dev)) alive_reads (λ dead. away_reads (is_away S dev) coming v.now (disk_now v dev) lt (copy.gone dead))
 
-      -- what a copy reads at the greatest moment
-      pub top_reads : v.now ≡ top → (c.alive ≡ false → is_away S dev ≡ false → v.lost (DiskPart dev) ≡ true) → ReadsBy S (is_away S dev) was coming (left_at v v.now dev)
-      top_reads last lost = by_alive c.alive refl where
-        by_alive : (b : Bool) → c.alive ≡ b → ReadsBy S (is_away S dev) was coming (left_at v v.now dev)
-        by_alive true is = less_reads (is_away S dev) coming ((v.now == top) && v.lost (DiskPart dev)) (disk_now v dev) (alive_reads is)
-        by_alive false is = away_top (is_away S dev) coming v.now (v.now == top) (v.lost (DiskPart dev)) (disk_now v dev) (eq-eqb v.now top last) (lost is) (copy.gone is)
+      -- and as a crash finds it: at the greatest moment a device may be lost too
+      pub left_now : (lost : Bool) → v.now ≤ top → (c.alive ≡ false → is_away S dev ≡ false → lost ≡ true) → ReadsBy S (is_away S dev) was coming (lost_if ((v.now == top) && lost) (disk_now v dev))
+      left_now lost most gone = test_cases c.alive (ReadsBy S (is_away S dev) was coming (lost_if ((v.now == top) && lost) (disk_now v dev))) (λ is. less_reads (is_away S dev) coming ((v.now == top) && lost) (disk_now v dev) (alive_reads is))
+          (λ dead. away_left (is_away S dev) coming v.now (v.now == top) lost (disk_now v dev) (λ e. let below : v.now ≢ top = eqb-false v.now top e in omega (arith, most)) (gone dead) (copy.gone dead))
 
 -- When a copy is being replaced.
 
@@ -146,10 +122,7 @@ ended_now (Some u) now t by le = ap not (le-leb u t (omega (arith, by, le)))
 -- from now on a copy is being replaced just where a renewal of it is open
 pub renewed_open : (rs : List Renewal) (now t : ℕ) → AreRenewedBy rs now → now ≤ t → is_renewed_at rs t ≡ is_open rs
 renewed_open [] now t by le = refl
-renewed_open (r ∷ rs) now t by le =
-    ap (λ (b : Bool). (b && not (has_ended r.until t)) || is_renewed_at rs t) (le-leb r.from t (omega (arith, by.0, le)))
-    ∙ ap (λ (b : Bool). b || is_renewed_at rs t) (ended_now r.until now t by.1 le)
-    ∙ ap (λ (b : Bool). is_none r.until || b) (renewed_open rs now t by.2 le)
+renewed_open (r ∷ rs) now t by le = simp (le-leb r.from t (omega (arith, by.0, le)), ended_now r.until now t by.1 le, renewed_open rs now t by.2 le)
 
 ended_later : (until : Option ℕ) (now later : ℕ) → now ≤ later → HasEndedBy until now → HasEndedBy until later
 ended_later None now later le by = tt
@@ -164,34 +137,15 @@ pub on_either : {X T E : Type 0} (P : X → Type 0) (is good bad : X) (r : Resul
 on_either P is good bad (Ok x) ok err one two = subst P (sym ok) one
 on_either P is good bad (Err x) ok err one two = subst P (sym err) two
 
-pub ok_then : {X Y T E : Type 0} (r : Result T E) → OnOk r X → (X → Y) → OnOk r Y
-ok_then (Ok x) h f = f h
-ok_then (Err e) h f = tt
-
 -- what needs no choice of what is kept
 pub told_then : {X E T K : Type 0} (A B : Type 0) (r : Result X E) → (T → ∥ K ∥₁) → IsProp B → (T → K → OnOk r (A → B)) → OnOk r (T → A → B)
 told_then A B (Ok x) some prop so = λ told now. ∥∥₁_elim (some told) prop (λ k. so told k now)
 told_then A B (Err e) some prop so = tt
 
-pub err_then : {X Y T E : Type 0} (r : Result T E) → OnErr r X → (X → Y) → OnErr r Y
-err_then (Ok x) h f = tt
-err_then (Err e) h f = f h
-
 -- a loop that changes each item of a list: those before i are so already
-module _ {A : Type 0} (zs : List A) (i : ℕ) (inside : i < length zs) where
-  drop_here : (d : A) → drop i zs ≡ get_or zs i d ∷ drop (i + 1) zs
-  drop_here d = rw (drop-cons zs i d inside, add-one) refl
-
-  write_more : (v : A) (ys : List A) → take (i + 1) (set zs i v) ++ ys ≡ take i zs ++ (v ∷ ys)
-  write_more v ys = rw (take_more_set zs i v inside) (append_assoc (take i zs) (v ∷ []) ys)
-
-  drop_more : (v : A) → drop (i + 1) (set zs i v) ≡ drop (i + 1) zs
-  drop_more v = drop-set-lt (i + 1) zs i v (omega arith)
-
-  pub change_here : (f : A → A) (all : List A) (v d : A) → take i zs ++ map f (drop i zs) ≡ all → v ≡ f (get_or zs i d) → take (i + 1) (set zs i v) ++ map f (drop (i + 1) (set zs i v)) ≡ all
-  change_here f all v d so_far is =
-      let so = rw (drop_here d) at so_far in
-      rw (drop_more v, write_more v (map f (drop (i + 1) zs)), is) so
+pub change_here : {A : Type 0} (zs : List A) (i : ℕ) → i < length zs → (f : A → A) (all : List A) (v d : A) → take i zs ++ map f (drop i zs) ≡ all → v ≡ f (get_or zs i d) → take (i + 1) (set zs i v) ++ map f (drop (i + 1) (set zs i v)) ≡ all
+change_here zs i inside f all v d so_far is =
+    rw (drop-set-lt (i + 1) zs i v (omega arith), take_more_set zs i v inside, append_assoc (take i zs) (v ∷ []) (map f (drop (i + 1) zs)), is) (rw (drop_more zs i d inside) at so_far)
 
 -- How the levels and orders on the copies rise.
 
@@ -204,14 +158,7 @@ kept_append (b ∷ js) ks = let e = kept_append js ks in omega (arith, e)
 -- no more are kept than there are
 pub kept_fewer : (js : List Batch) → batches_kept js ≤ length js
 kept_fewer [] = omega arith
-kept_fewer (b ∷ js) = by_fate (is_kept b.fate) (kept_fewer js)
-  where
-    by_fate : (k : Bool) → batches_kept js ≤ length js → (if k then 1 else 0) + batches_kept js ≤ suc (length js)
-    by_fate true le = omega (arith, le)
-    by_fate false le = omega (arith, le)
-
-pub kept_one : (c : Batch) → c.fate ≡ Kept → batches_kept (c ∷ []) ≡ 1
-kept_one c fate = ap (λ f. (if is_kept f then 1 else 0) + 0) fate
+kept_fewer (b ∷ js) = let le = kept_fewer js in of_if (λ (n : ℕ). n + batches_kept js ≤ suc (length js)) (is_kept b.fate) 1 0 (λ _. omega (arith, le)) (λ _. omega (arith, le))
 
 -- LEVELS AND ORDERS
 
@@ -235,16 +182,9 @@ at_kept S reached K was stands disk reads image is pages e =
     let same : pages ≡ was = of_one (λ p. p ≡ was) (λ p. p ≡ was) was None pages refl tt (λ p e. e) (subst (λ (q : Option (List ℕ)). IsOneOf was None q) e (reads image is)) in
     (ap level same ∙ stands.at_level, ap next_order same)
 
--- a greater bound
-pub less_up : (reads : List ℕ → Option (List ℕ)) (l order a b : ℕ) → a ≤ b → (disk : Disk) → ReadsUpTo reads l order a disk → ReadsUpTo reads l order b disk
-less_up reads l order a b le disk up image is pages e = let low = up image is pages e in (omega (arith, low.0, le), low.1)
-
 -- pages are near to their own level and next order
 pub own_near : (reached : ℕ) (was : List ℕ) → level was ≡ reached → IsNear reached (next_order was) was
-own_near reached was at_level = own (level was) (next_order was) at_level
-  where
-    own : (a n : ℕ) → a ≡ reached → n + orders_most * reached ≤ n + orders_most * a
-    own a n e = omega (arith, e)
+own_near reached was at_level = subst (λ (n : ℕ). next_order was + orders_most * n ≤ next_order was + orders_most * level was) at_level (le_refl (next_order was + orders_most * level was))
 
 -- with none in flight
 abbrev pub only_pages : (S : Setting) (reached : ℕ) (K : List Entry) (was : List ℕ) → Stands S reached K was → Versions S reached K [] reached (next_order was)

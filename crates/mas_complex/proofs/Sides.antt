@@ -1,20 +1,12 @@
 -- What one call does to one copy.
-use Rattle.mas_complex.proofs.Names.{◌≡◌, ℕ, ◌+◌, ◌≤◌, ◌<◌, Bool, true, false, List, length, Option, Some, None, IfSome, Result, Ok, Err, OnOk, IsErrOf, refl, subst, sym, ◌∙◌, ap, arith, append-nil, Dev, View, ViewDisk as Disk, Avoids, disk_now, top, AllRead, Touched, Meanwhile, meanwhile_weaker, meanwhile_end, PairNo, BothLost, Halted, SameOrLost, Batch, Entry, Place, Before, Put, Opened, Unsure, is_away, Setting, Copy, CopyAt, ReadsOne, ReadsBy, OnComing, IsAt, IsPlaceAfter, HasNoOther, Ckpt1, Ckpt2, Spool, NoMore, IsCkpt, BothMeanwhile, ◌≢◌, ◌++◌, IfOk, OnErr, le_refl, Throughout, disk_at, Half, Look, Lost, Unread, Pages, LookNo, WasSeen, kept_all, entries_in, in_flight, Keeps, Versions, ◌||◌, no_more_image, IsGone, ◌⊎◌, ◌∷◌, Page, Disk as DiskPart, bytes_of, level, IsAtLevel, IsPlaceSeen, Stands, IsNext, IsOneOf, if◌then◌else◌, inl, inr, ◌*◌, ◌==◌, nat_lt, All, IsSome, eqb-false, eqb-true, length-append, All-head, All-tail, Queue, page_bytes, page_count, StandFor, run, IfPages, IsGreater, IsOneSeen, Looked, Sought, usable, AreNotedBefore, [], true≢false, ⊎_elim}
-use Rattle.mas_complex.proofs.Basics.{no, some_is, Passes, some_of, before_opened, stays_true}
-use Rattle.mas_complex.proofs.Present.{Reads, not_renewed, away_lost, away_same, away_reads, copy_reads, away_moved, side_reads, coming_of, of_one, sent}
+use Rattle.mas_complex.proofs.Names.{◌≡◌, ℕ, ◌+◌, ◌≤◌, ◌<◌, Bool, true, false, List, length, Option, Some, None, IfSome, Result, Ok, Err, OnOk, IsErrOf, refl, subst, sym, ◌∙◌, ap, arith, append-nil, Dev, View, ViewDisk as Disk, Avoids, disk_now, top, Touched, Meanwhile, meanwhile_weaker, PairNo, BothLost, Halted, SameOrLost, Batch, Entry, Place, Before, Put, Opened, Unsure, is_away, Setting, Copy, CopyAt, ReadsOne, ReadsBy, OnComing, IsAt, IsPlaceAfter, HasNoOther, Ckpt1, Ckpt2, Spool, NoMore, IsCkpt, ◌++◌, IfOk, OnErr, le_refl, Throughout, disk_at, Half, Look, Lost, Unread, Pages, LookNo, WasSeen, kept_all, entries_in, in_flight, Keeps, Versions, ◌||◌, no_more_image, IsGone, ◌⊎◌, ◌∷◌, Page, Disk as DiskPart, bytes_of, level, IsAtLevel, IsPlaceSeen, Stands, IsNext, IsOneOf, inl, inr, ◌*◌, nat_lt, All, IsSome, length-append, All-head, All-tail, Queue, page_bytes, page_count, StandFor, run, IfPages, IsGreater, IsOneSeen, Looked, Sought, AreNotedBefore, [], true≢false, ⊎_elim, IsUsed, test_cases, IsAway, IsImage}
+use Rattle.mas_complex.proofs.Basics.{no, some_is, Passes, some_of, before_opened, stays_true, of_if}
+use Rattle.mas_complex.proofs.Present.{Reads, not_renewed, away_reads, copy_reads, away_moved, side_reads, coming_of, of_one, sent}
 use Rattle.mas_complex.proofs.Moves.{Adds, acts_keep}
 use Rattle.mas_complex.proofs.Spooled.{stays_same}
 use Rattle.mas_complex.proofs.Pasts.{image_now}
 use Rattle.mas_complex.specs.Kept.{OnlyOnCopies}
 use Rattle.queue_laws.proofs.RunLaws.{runs_keep_configuration}
-
--- a batch with an entry may have pages in flight
-pub some_coming : (F : List Entry) (coming : Option (List ℕ)) → 1 ≤ length F → F ≡ [] → coming ≡ None
-some_coming F coming some none = let e : length F ≡ 0 = ap length none in absurd (omega (arith, e, some))
-
--- pages of the next level have one level more than those of the level reached
-pub one_level_more : (l m reached : ℕ) → l ≡ reached → m ≡ reached + 1 → m ≡ l + 1
-one_level_more l m reached e f = omega (arith, e, f)
 
 -- the next level is the higher one
 pub is_higher : (l m reached : ℕ) → l ≡ reached → m ≡ reached + 1 → l < m
@@ -96,14 +88,11 @@ module _ (S : Setting) (was : List ℕ) (coming : Option (List ℕ)) (dev : Dev)
     -- and one that counted as alive goes by what each image reads as
     pub went : (P : Disk → Type 0) → (c.alive ≡ true → (d : Disk) → P d → ReadsOne S was coming d) → Throughout old.now new.now (λ t. (c.alive ≡ true → P (disk_at new t dev)) × (c.alive ≡ false → NoMore (disk_now old dev) (disk_at new t dev)))
         → IsGone dev c.alive c'.alive new → (c.alive ≡ true → ReadsOne S was coming (disk_now new dev) → P (disk_now new dev) → c'.alive ≡ true → IsAt S c' was coming c'.place (disk_now new dev)) → Went
-    went P reads m gone at = by_alive c.alive refl where
-      by_alive : (b : Bool) → c.alive ≡ b → Went
-      by_alive false dead = idle dead (λ t from le. (m t from le).1 dead)
-      by_alive true is = let here : Throughout old.now new.now (λ t. P (disk_at new t dev)) = λ t from le. (m t from le).0 is in record {
-        during = λ t from le lt. not_renewed S was (is_away S dev) coming (disk_at new t dev) (copy.formed is) (reads is (disk_at new t dev) (here t from le));
-        after = let last = here new.now le (le_refl new.now) in
-            record { at = at is (reads is (disk_now new dev) last) last; formed = λ _. copy.formed is; gone = λ dead. away_lost S was (is_away S dev) new.now (disk_now new dev) (copy.formed is) (gone is dead) };
-      }
+    went P reads m gone at = test_cases c.alive Went (λ is. let here : Throughout old.now new.now (λ t. P (disk_at new t dev)) = λ t from le. (m t from le).0 is in record {
+      during = λ t from le lt. not_renewed S was (is_away S dev) coming (disk_at new t dev) (copy.formed is) (reads is (disk_at new t dev) (here t from le));
+      after = let last = here new.now le (le_refl new.now) in
+          record { at = at is (reads is (disk_now new dev) last) last; formed = λ _. copy.formed is; gone = λ dead. subst (λ (b : Bool). IsAway S was b new.now (disk_now new dev)) (sym (copy.formed is)) (gone is dead) };
+    }) (λ dead. idle dead (λ t from le. (m t from le).1 dead))
 
     -- by what it is touched with, and where it stands after the answer
     pub touches : {T : Type 0} (done : Result T PairNo) (ok : Place) (P : Disk → Type 0) → (c.alive ≡ true → (d : Disk) → P d → ReadsOne S was coming d) → Throughout old.now new.now (λ t. Touched c.alive P (disk_now old dev) (disk_at new t dev)) → IsGone dev c.alive c'.alive new
@@ -124,7 +113,7 @@ pub moved : (S : Setting) (was : List ℕ) (coming : Option (List ℕ)) (dev : D
 moved S was coming dev c old new le same copy = record {
   at = λ is. subst (λ (x : Disk). IsAt S c was coming c.place x) (sym same) (copy.at is);
   formed = copy.formed;
-  gone = λ is. away_same S was (is_away S dev) old.now new.now (disk_now old dev) (disk_now new dev) le same (copy.gone is);
+  gone = λ is. away_moved S was (is_away S dev) old.now new.now (disk_now old dev) (disk_now new dev) le (λ lost. ap (λ (x : Disk). x.lost) same ∙ lost) (λ image im. subst (λ (x : Disk). IsImage x image) same im) (copy.gone is);
 }
 
 pub untouched : (S : Setting) (was : List ℕ) (coming : Option (List ℕ)) (dev : Dev) (c : Copy) (old new : View) → Reads S.reads c → CopyAt S was coming dev c old → old.now ≤ new.now → Throughout old.now new.now (λ t. disk_at new t dev ≡ disk_now old dev) → Went S was coming dev c old new
@@ -154,23 +143,9 @@ copies_went S js c reached copies copies' old new keeps p passes leaves went lat
     (calm S (js ++ in_flight c) old new leaves.console passes.later) (stays_same S (kept_all js) (entries_in c) old new (λ t lt le n. leaves.volumes t (omega (arith, lt)) le (Spool n) (λ e. absurd (cc)) (λ e. absurd (cc))))
     (λ d ckpt. (went d ckpt).after) later
 
--- THE BYTES after a call that leaves no more images
-
-module _ (old new : View) where
-  pub same_bytes : (dev : Dev) → IsCkpt dev → Meanwhile dev (NoMore (disk_now old dev)) old new → (d : Dev) → (disk_now new d).bytes ≡ (disk_now old d).bytes
-  same_bytes Ckpt1 ckpt m Ckpt1 = (meanwhile_end Ckpt1 (NoMore (disk_now old Ckpt1)) old new m).bytes
-  same_bytes Ckpt2 ckpt m Ckpt2 = (meanwhile_end Ckpt2 (NoMore (disk_now old Ckpt2)) old new m).bytes
-  same_bytes (Spool n) ckpt m d = absurd ckpt
-  same_bytes dev ckpt m d = ap (λ (x : Disk). x.bytes) (m.others new.now m.goes.later (omega arith) d (λ e. absurd (cc)))
-
-  -- a device that a call lost
-  pub lost_while : (dev : Dev) → Meanwhile dev (SameOrLost (disk_now old dev)) old new → Meanwhile dev (NoMore (disk_now old dev)) old new
-  lost_while dev m = meanwhile_weaker dev (SameOrLost (disk_now old dev)) (NoMore (disk_now old dev)) old new m (λ d so. lost_more (disk_now old dev) d so)
-
-  pub read_bytes : BothMeanwhile (NoMore (disk_now old Ckpt1)) (NoMore (disk_now old Ckpt2)) old new → (d : Dev) → (disk_now new d).bytes ≡ (disk_now old d).bytes
-  read_bytes m Ckpt1 = (m.first new.now m.goes.later (omega arith)).bytes
-  read_bytes m Ckpt2 = (m.second new.now m.goes.later (omega arith)).bytes
-  read_bytes m d = ap (λ (x : Disk). x.bytes) (m.others new.now m.goes.later (omega arith) d (λ e. absurd (cc)) (λ e. absurd (cc)))
+-- a device that a call lost leaves no more images
+pub lost_while : (old new : View) (dev : Dev) → Meanwhile dev (SameOrLost (disk_now old dev)) old new → Meanwhile dev (NoMore (disk_now old dev)) old new
+lost_while old new dev m = meanwhile_weaker dev (SameOrLost (disk_now old dev)) (NoMore (disk_now old dev)) old new m (λ d so. lost_more (disk_now old dev) d so)
 
 -- a copy that was looked at passes the test, where it did before
 pub seen_fits : {C : Type 0} (count room : C → ℕ) (room_most : ℕ) (ready : C → View → Type 0) (reads : List ℕ → Option (List ℕ)) (rests : C → List ℕ → Disk → Type 0) (tells : Type 0) (dev : Dev) (new : View) (h k : Half C)
@@ -205,17 +180,14 @@ stands_of S js c reached copies v keeps pages some before now reads =
 
 -- What a look at a copy tells.
 
--- pages at rest on a device that isn't lost are the kept ones or those in flight
 module _ (S : Setting) (was : List ℕ) (coming : Option (List ℕ)) where
-  pub reads_one : (d : Disk) (pages : List ℕ) → AllRead S.reads pages d → d.lost ≡ false → ReadsOne S was coming d → IsOneOf was coming (Some pages)
-  reads_one d pages all there reads = subst (λ (q : Option (List ℕ)). IsOneOf was coming q) (all d.bytes (image_now d there)) (reads d.bytes (image_now d there))
-
   module _ (c : Copy) (d : Disk) (laws : Reads S.reads c) (reads : ReadsOne S was coming d) (done : Result Look LookNo) (seen : (pages : List Page) → done ≡ Ok (Pages pages) → (d.lost ≡ false) × c.rests (bytes_of pages) d)
       (reached : ℕ) (K F : List Entry) (stands : Stands S reached K was) (comes : IsNext S reached K F coming) (found : IsPlaceSeen done reached c.place) where
     -- pages seen are the kept ones, or those in flight, which have the next level
     by_level : (pages : List Page) → done ≡ Ok (Pages pages) → ((c.place ≡ Before) × (bytes_of pages ≡ was)) ⊎ ((c.place ≡ Opened) × (coming ≡ Some (bytes_of pages)))
     by_level pages is =
-        let one = reads_one d (bytes_of pages) (laws.rest (bytes_of pages) d (seen pages is).1) (seen pages is).0 reads in
+        let image = image_now d (seen pages is).0 in
+        let one = subst (λ (q : Option (List ℕ)). IsOneOf was coming q) (laws.rest (bytes_of pages) d (seen pages is).1 d.bytes image) (reads d.bytes image) in
         let f : IsAtLevel (level (bytes_of pages)) reached c.place = subst (λ (x : Result Look LookNo). IsPlaceSeen x reached c.place) is found in
         ⊎_elim
         (λ b. inl (b.0, ⊎_elim (λ e. e) (λ e. let n : Stands S (reached + 1) (K ++ F) (bytes_of pages) = subst (λ (n : Option (List ℕ)). IsNext S reached K F n) e comes in absurd (omega (arith, b.1, n.at_level))) one))
@@ -243,54 +215,26 @@ look_stands S js c reached copies v keeps pages same =
       some [] not = absurd (not refl)
       some (e ∷ es) not = omega arith
 
--- what a copy reads that counts as alive are the kept pages or those in flight
-pub reads_in : (S : Setting) (was : List ℕ) (coming : Option (List ℕ)) (dev : Dev) (c : Copy) (v : View) → Reads S.reads c → CopyAt S was coming dev c v → c.alive ≡ true → (disk_now v dev).lost ≡ false → IsOneOf was coming (S.reads (disk_now v dev).bytes)
-reads_in S was coming dev c v laws copy is there = side_reads S was c laws coming c.place (disk_now v dev) (copy.at is) (disk_now v dev).bytes (image_now (disk_now v dev) there)
-
 -- What a look at a copy gave, once its pages were counted: over a plant that tells, they are always as many as the
 -- configuration has.
 
 abbrev IsSized : Page → Type 0
 IsSized page = length page.0 ≡ page_bytes
 
-same_found : (xs ys : List Page) → Pages xs ≡ Pages ys → xs ≡ ys
-same_found xs ys e = cc
-
--- BY WHAT WAS SEEN
-
-pub used_pages : (many : ℕ) (look : Look) (pages : List Page) → usable many look ≡ Pages pages → (look ≡ Pages pages) × (length pages ≡ many)
-used_pages many (Pages found) pages is = by_test (length found == many) refl is where
-  by_test : (b : Bool) → (length found == many) ≡ b → (if b then Pages found else Unread) ≡ Pages pages → (Pages found ≡ Pages pages) × (length pages ≡ many)
-  by_test true e same = (same, ap length (sym (same_found found pages same)) ∙ eqb-true (length found) many e)
-  by_test false e same = absurd (cc)
-used_pages many _ pages is = absurd (cc)
-
-pub used_lost : (many : ℕ) (look : Look) → usable many look ≡ Lost → look ≡ Lost
-used_lost many Lost is = refl
-used_lost many Unread is = absurd (cc)
-used_lost many (Pages found) is = by_test (length found == many) is where
-  by_test : (b : Bool) → (if b then Pages found else Unread) ≡ Lost → Pages found ≡ Lost
-  by_test true same = same
-  by_test false same = absurd (cc)
-
 module _ {C : Type 0} (count room : C → ℕ) (room_most : ℕ) (ready : C → View → Type 0) (reads : List ℕ → Option (List ℕ)) (rests : C → List ℕ → Disk → Type 0) (tells : Type 0) (dev : Dev) (v : View) (was is : C) (alive : Bool) (many : ℕ) where
   abbrev Seen : Look → Type 0
   Seen look = WasSeen count room room_most ready reads rests tells dev v was is alive look
 
   -- a copy that isn't used counts as alive, and its device isn't lost
-  pub unused_there : (look : Look) → usable many look ≡ Unread → Seen look → (alive ≡ true) × (v.lost (DiskPart dev) ≡ false)
-  unused_there Lost e seen = absurd (cc)
-  unused_there _ e seen = (seen.is_alive, seen.there)
+  pub unused_there : (look : Look) → IsUsed many look Unread → Seen look → (alive ≡ true) × (v.lost (DiskPart dev) ≡ false)
+  unused_there Lost used seen = ⊎_elim (λ e. absurd (cc e)) (λ e. absurd (cc e.1)) used
+  unused_there _ used seen = (seen.is_alive, seen.there)
 
   -- where content is told it reads as none, or as another number of pages, which the kept pages and those in flight don't
-  pub never_unused : ((pages : List ℕ) (d : Disk) → rests is pages d → reads d.bytes ≡ Some pages) → tells → (look : Look) → usable many look ≡ Unread → IfPages look (All IsSized) → Seen look → (kept : List ℕ) (coming : Option (List ℕ)) → IsOneOf kept coming (reads (disk_now v dev).bytes)
+  pub never_unused : ((pages : List ℕ) (d : Disk) → rests is pages d → reads d.bytes ≡ Some pages) → tells → (look : Look) → IsUsed many look Unread → IfPages look (All IsSized) → Seen look → (kept : List ℕ) (coming : Option (List ℕ)) → IsOneOf kept coming (reads (disk_now v dev).bytes)
       → ((pages : List Page) → All IsSized pages → IsOneOf kept coming (Some (bytes_of pages)) → length pages ≡ many) → ⊥
-  never_unused now told Lost e sized seen kept coming one so = absurd (cc)
-  never_unused now told Unread e sized seen kept coming one so = subst (IsOneOf kept coming) (seen.none told).now one
-  never_unused now told (Pages pages) e sized seen kept coming one so = by_test (length pages == many) refl e where
-    by_test : (b : Bool) → (length pages == many) ≡ b → (if b then Pages pages else Unread) ≡ Unread → ⊥
-    by_test true is same = absurd (cc)
-    by_test false not same = eqb-false (length pages) many not (so pages sized (subst (IsOneOf kept coming) (now (bytes_of pages) (disk_now v dev) (seen.found told)) one))
+  never_unused now told look (inl e) sized seen kept coming one so = subst (IsOneOf kept coming) ((subst Seen e seen).none told).now one
+  never_unused now told look (inr other) sized seen kept coming one so = other.2 (so other.0 (subst (λ l. IfPages l (All IsSized)) other.1 sized) (subst (IsOneOf kept coming) (now (bytes_of other.0) (disk_now v dev) ((subst Seen other.1 seen).found told)) one))
 
 -- HOW MANY PAGES STAND FOR A QUEUE
 
@@ -326,7 +270,4 @@ pub found_many : (many : ℕ) (one two : Option (List Page)) (found : List Page)
 found_many many None None found a b is = absurd is
 found_many many (Some one) None found a b is = ap length is ∙ a
 found_many many None (Some two) found a b is = ap length is ∙ b
-found_many many (Some one) (Some two) found a b is = ap length is ∙ by_test (nat_lt (level (bytes_of one)) (level (bytes_of two))) where
-  by_test : (c : Bool) → length (if c then two else one) ≡ many
-  by_test true = b
-  by_test false = a
+found_many many (Some one) (Some two) found a b is = ap length is ∙ of_if (λ (l : List Page). length l ≡ many) (nat_lt (level (bytes_of one)) (level (bytes_of two))) two one (λ _. b) (λ _. a)

@@ -1,17 +1,16 @@
 -- A shared value as lemmas take it, and what an act leaves of it that changes neither copy.
-use Rattle.mas_complex.proofs.Names.{◌≡◌, ◌≢◌, ◌≤◌, ◌<◌, ◌++◌, ◌∙◌, ℕ, List, [], Some, IsSome, true, false, length, ap, arith, subst, sym, ◌⊎◌, append-nil, ∥∥₁_elim, ∥∥₁_map, ∥∥₁_map₂, ∥∥₁_prop, All, Flying, IsUntold, Closes, has_step, said, printed_after, setting, IsSound, Dev, Spool, Batch, is_stopped, Disk as DiskPart, PlantGhosts, ViewDisk as Disk, View, disk_at, disk_now, Goes, OnDevice, SamePaper, next, Ghosts as CopyGhosts, NoMore, SteadyGhosts, page_count, Pair, Place, Complex, Copy, Keeps, ReadsBy, Setting, copy_of, setting_with, AreFew, AreSettled, HasPlace, IsBegun, entries_in, entries_most, entries_reserved, in_flight, journal_most, kept_all, Parts, KeepsPaper, SamePapers, HavePasts, sight_of, values_of, is_open, AreReplied, le_refl, Book, Entry, None, Option, inl, inr, parts_of, refl, IsCkpt, pick, Half, is_away, Sight, of_device, Ckpt1, Ckpt2, AreAllowed, past_batches, AreGivenIn, counts_of, HaveReplies, HasTexts, lost_now, spools_at, run, Bool, Before, Acted, other, CopyAt, Elsewhere, with_copy, HasPast, Versions, ⊎_elim, is_flying, Fate, Dropped, Kept, Unsure, with_last, ◌∷◌, MemberId, Queue, Arms, LineAt, GroupNo, Page, page_bytes, Act, LosesThere, Syncs, AreItsOwn, volume_of, start_of, IsHeldBy, device_of, is_within, page_start, page_part, with_flying, World as PlantWorld, ReadsGroup, WritesGroup, Renewals, AreLater, AreNotedBefore, IsAt, IsOneOf, Put, Opened}
-use Rattle.mas_complex.proofs.Books.{Booked, IsOwned, owned_none, owned_own, settled_with_last, settled_past}
+use Rattle.mas_complex.proofs.Names.{◌≡◌, ◌≢◌, ◌≤◌, ◌<◌, ◌++◌, ◌∙◌, ℕ, List, [], Some, IsSome, true, false, length, ap, arith, subst, sym, ◌⊎◌, ∥∥₁_elim, ∥∥₁_map, ∥∥₁_map₂, ∥∥₁_prop, All, Flying, IsUntold, Closes, has_step, said, printed_after, setting, IsSound, Dev, Spool, Batch, is_stopped, Disk as DiskPart, PlantGhosts, ViewDisk as Disk, View, disk_at, disk_now, Goes, OnDevice, SamePaper, next, Ghosts as CopyGhosts, NoMore, SteadyGhosts, page_count, Pair, Place, Complex, Copy, Keeps, ReadsBy, Setting, copy_of, setting_with, AreFew, AreSettled, HasPlace, IsBegun, entries_in, entries_most, entries_reserved, in_flight, journal_most, kept_all, Parts, KeepsPaper, SamePapers, HavePasts, sight_of, values_of, is_open, AreReplied, le_refl, Book, Entry, None, Option, inl, inr, parts_of, refl, IsCkpt, pick, Half, is_away, Sight, of_device, Ckpt1, Ckpt2, AreAllowed, past_batches, AreGivenIn, counts_of, HaveReplies, HasTexts, lost_now, spools_at, run, Bool, Before, Acted, other, CopyAt, Elsewhere, Versions, ⊎_elim, is_flying, Dropped, Kept, Unsure, with_last, ◌∷◌, MemberId, Arms, GroupNo, Page, page_bytes, Act, AreItsOwn, volume_of, start_of, IsHeldBy, device_of, is_within, page_start, page_part, with_flying, World as PlantWorld, ReadsGroup, WritesGroup, Renewals, AreLater, AreNotedBefore, IsAt, IsOneOf, Put, Opened, append-nil, AreReady, pages_least, pages_most}
+use Rattle.mas_complex.proofs.Books.{Booked, IsOwned, owned_none, settled_without_last}
 use Rattle.mas_complex.proofs.Pasts.{image_now}
-use Rattle.mas_complex.proofs.Basics.{parts_with, passes_of, volume_beside, frame_on, beside, of_beside, of_each, no, pick_same, stays_true, Passes, passes_none, still_none}
-use Rattle.mas_complex.proofs.Batches.{begun_later, settled_later, past_given, past_kept, short_left, few_with_last, begun_replied, fated_replied, few_last, fated_past}
+use Rattle.mas_complex.proofs.Basics.{parts_with, passes_of, volume_beside, beside, of_beside, of_each, no, stays_true, Passes, still_none}
+use Rattle.mas_complex.proofs.Batches.{begun_later, settled_later, past_given, past_kept, short_left, few_with_last, few_last, fated_past, settled_push, replied_both, replied_front, replied_rest}
 use Rattle.mas_complex.proofs.Moves.{Adds, acts_keep, adds_none, begins_keep, each_tells}
 use Rattle.mas_complex.proofs.Papers.{given_append, given_flight, same_papers, begins_on_paper, fated_on_paper, passes_on_paper}
 use Rattle.mas_complex.proofs.Pasts.{image_now}
 use Rattle.mas_complex.proofs.Present.{Reads, copy_reads, coming_of, of_one, sent}
 use Rattle.mas_complex.proofs.Sides.{moved, Went, rests_before, calm, copies_went, held_at, untouched}
-use Rattle.mas_complex.proofs.Spooled.{Stays, stays_same, Quiet, texts_quiet, texts_written, each_quiet, quiet_untouched, read_quiet, sync_quiet}
-use Rattle.mas_complex.proofs.Counted.{elsewhere_calm, still_lost}
-use Rattle.duplex_pair.specs.Halves.{AreReady}
+use Rattle.mas_complex.proofs.Spooled.{Stays, stays_same, Quiet, texts_quiet, texts_written, each_quiet, read_quiet}
+use Rattle.mas_complex.proofs.Counted.{elsewhere_calm, pair_lost}
 use borrow.Fn.World
 use denote.RattleType
 use mir.Syntax
@@ -22,6 +21,7 @@ use Rattle.spool_plant.specs.contracts.plant.Plant.TheBound as PlantBound
 -- the laws of a plant and of a copy
 pub record Laws {P C : Type 0} (plants : PlantGhosts P) (steadies : SteadyGhosts C) (copies : CopyGhosts C) : Type 0 where
   pub there : (p : P) → plants.tells → (d : Dev) → (plants.view p).lost (DiskPart d) ≡ false → (disk_now (plants.view p) d).lost ≡ false
+  pub ready_many : (x : C) (v : View) → copies.ready x v → (pages_least ≤ copies.count x) × (copies.count x ≤ pages_most)
   pub fit_ready : (x : C) (v : View) → steadies.fits x v ≡ true → copies.ready x v
   pub ready_fit : (x : C) (v : View) → copies.ready x v → steadies.fits x v ≡ true
   pub reads : (h : Half C) (p : Place) → Reads copies.reads (copy_of copies.rests copies.holds h p)
@@ -46,9 +46,6 @@ module _ {P C : Type 0} (plants : PlantGhosts P) (steadies : SteadyGhosts C) (co
   abbrev pub KeepsOf : Type 0
   KeepsOf = Keeps (setting_with copies.reads x.base x.since x.renewals x.had) (past_batches x.placed x.batches) x.current x.level (λ d. copy_of copies.rests copies.holds (half d) (pick d x.first x.second)) v
 
-  abbrev pub PaperOf : Type 0
-  PaperOf = KeepsPaper x.base x.since (past_batches x.placed x.batches) x.current (x.printed, x.book) v
-
   abbrev pub ReadyOf : Type 0
   ReadyOf = (d : Dev) → IsCkpt d → (half d).alive ≡ true → steadies.fits (half d).copy v ≡ true
 
@@ -60,7 +57,7 @@ module _ {P C : Type 0} (plants : PlantGhosts P) (steadies : SteadyGhosts C) (co
       record {
         kept : plants.tells → ∥ KeepsOf ∥₁;
         replied : plants.tells → ∥ AreReplied x.base (past_batches x.placed x.batches ++ in_flight x.current) ∥₁;
-        paper : plants.tells → IsSound x.base → ∥ PaperOf ∥₁;
+        paper : plants.tells → IsSound x.base → ∥ KeepsPaper x.base x.since (past_batches x.placed x.batches) x.current (x.printed, x.book) v ∥₁;
         ready : ReadyOf;
         lost : LostOf;
         one : IsSome x.current → IsSome x.reserved → ⊥;
@@ -105,12 +102,9 @@ module _ {P C : Type 0} {plants : PlantGhosts P} {steadies : SteadyGhosts C} {co
 
   -- WITH OTHER COPIES, and where its plant shows another world
   module _ (pair : Pair C copies) (first second : Place) (v : View) where
-    -- what a crash leaves, what stands on paper, and which copies are ready and which lost
+    -- what a crash leaves, and which copies are ready and which lost
     abbrev pub KeepsOn : Type 0
     KeepsOn = KeepsOf plants steadies copies (parts_with s s.plant pair first second) v
-
-    abbrev pub PaperOn : Type 0
-    PaperOn = PaperOf plants steadies copies (parts_with s s.plant pair first second) v
 
     abbrev pub ReadyOn : Type 0
     ReadyOn = ReadyOf plants steadies copies (parts_with s s.plant pair first second) v
@@ -129,29 +123,18 @@ module _ {P C : Type 0} {plants : PlantGhosts P} {steadies : SteadyGhosts C} {co
 
       pub facts_with : view_of.now ≤ v.now → (plants.tells → ∥ KeepsOf plants steadies copies changed v ∥₁) → (plants.tells → IsSound s.base → ∥ KeepsPaper s.base s.since past_of s.current (printed, is) v ∥₁)
           → ReadyOn → LostOf plants steadies copies changed v → IsOwned s.current is → (left ≡ None) ⊎ (left ≡ s.reserved) → FactsOf plants steadies copies changed v
-      facts_with later kept paper ready lost owned fewer = record {
-        kept = kept;
-        replied = s.replied;
-        paper = paper;
-        ready = ready;
-        lost = lost;
-        one = λ some has. s.one some (still fewer has);
-        place_reserved = λ has. s.place_reserved (still fewer has);
-        place_current = s.place_current;
-        place = s.place;
-        settled = settled_later s.journal.batches view_of.now v.now s.settled later;
-        begun = begun_later s.current view_of.now v.now s.begun later;
-        owned = owned;
-        few = s.few;
-        short = s.short;
-        short_reserved = short_left s.reserved left fewer s.short_reserved;
-        counted = s.counted;
-      } where
-        still : (left ≡ None) ⊎ (left ≡ s.reserved) → IsSome left → IsSome s.reserved
-        still (inl e) has = let none : false ≡ true = subst (λ (r : Option (List Entry)). IsSome r) e has in absurd (cc)
-        still (inr e) has = subst (λ (r : Option (List Entry)). IsSome r) e has
+      facts_with later kept paper ready lost owned fewer =
+          let one : IsSome s.current → IsSome left → ⊥ = λ some has. s.one some (still fewer has) in
+          let place_reserved : IsSome left → s.placed ≡ true = λ has. s.place_reserved (still fewer has) in
+          let settled : AreSettled s.journal.batches v.now = settled_later s.journal.batches view_of.now v.now s.settled later in
+          let begun : IsBegun s.current v.now = begun_later s.current view_of.now v.now s.begun later in
+          let short : length (entries_reserved left) ≤ entries_most = short_left s.reserved left fewer s.short_reserved in
+          assumption (one, place_reserved, settled, begun, short, kept, paper, ready, lost, owned, s) where
+            still : (left ≡ None) ⊎ (left ≡ s.reserved) → IsSome left → IsSome s.reserved
+            still (inl e) has = let none : false ≡ true = subst (λ (r : Option (List Entry)). IsSome r) e has in absurd (cc)
+            still (inr e) has = subst (λ (r : Option (List Entry)). IsSome r) e has
 
-    pub facts : view_of.now ≤ v.now → (plants.tells → ∥ KeepsOn ∥₁) → (plants.tells → IsSound s.base → ∥ PaperOn ∥₁) → ReadyOn → LostOn → Facts
+    pub facts : view_of.now ≤ v.now → (plants.tells → ∥ KeepsOn ∥₁) → (plants.tells → IsSound s.base → ∥ KeepsPaper s.base s.since past_of s.current (s.printed, s.book) v ∥₁) → ReadyOn → LostOn → Facts
     facts later kept paper ready lost = facts_with s.printed s.book s.reserved s.renewals later kept paper ready lost s.owned (inr refl)
 
   -- what a crash leaves of it where its plant shows this
@@ -166,20 +149,21 @@ module _ {P C : Type 0} {plants : PlantGhosts P} {steadies : SteadyGhosts C} {co
   given_of told sound = ∥∥₁_map₂ (s.paper told sound) s.place (λ on has. given_append s.base s.journal.batches (in_flight s.current) (past_given s.base s.placed s.journal.batches has on.given) (given_flight s.base s.current on.coming_given))
 
   -- the printers after acts that print nothing, with another book
-  paper_with : (v : View) (is : Book) → Passes view_of v → (plants.tells → SamePapers view_of v) → ((m : MemberId) → is_stopped is m ≡ false → is_stopped s.book m ≡ false) → plants.tells → IsSound s.base
+  pub paper_with : (v : View) (is : Book) → Passes view_of v → (plants.tells → SamePapers view_of v) → ((m : MemberId) → is_stopped is m ≡ false → is_stopped s.book m ≡ false) → plants.tells → IsSound s.base
       → ∥ KeepsPaper s.base s.since past_of s.current (s.printed, is) v ∥₁
   paper_with v is goes same up told sound = ∥∥₁_map₂ (s.kept told) (s.paper told sound) (λ k on. passes_on_paper s.base s.since past_of s.current s.printed s.book view_of v k.started k.settled k.begun goes on is up (same told))
 
   pub paper_after : (v : View) → Goes view_of v → (plants.tells → SamePapers view_of v) → plants.tells → IsSound s.base → ∥ KeepsPaper s.base s.since past_of s.current (s.printed, s.book) v ∥₁
   paper_after v goes same = paper_with v s.book (passes_of view_of v goes) same (λ m up. up)
 
-  -- copies that stay fit after any acts
-  pub ready_after : (v : View) → Goes view_of v → ReadyOn s.pair s.first s.second v
-  ready_after v goes d ckpt is = steadies.stays_fit (half_of d).copy view_of v goes (s.ready d ckpt is)
-
   -- both copies are ready, as the pair asks it
   pub ready_of : Laws plants steadies copies → AreReady copies.ready s.pair.first.copy s.pair.second.copy s.pair.first.alive s.pair.second.alive view_of
   ready_of laws = record { first = λ is. laws.fit_ready s.pair.first.copy view_of (s.ready Ckpt1 tt is); second = λ is. laws.fit_ready s.pair.second.copy view_of (s.ready Ckpt2 tt is) }
+
+  -- the copy beside one, where it counts as alive, has as many pages as a copy may have
+  pub many_beside : Laws plants steadies copies → (dev : Dev) → IsCkpt dev → (other dev s.pair.first s.pair.second).alive ≡ true → (pages_least ≤ copies.count (other dev s.pair.first s.pair.second).copy) × (copies.count (other dev s.pair.first s.pair.second).copy ≤ pages_most)
+  many_beside laws dev ckpt is = let h = (other dev s.pair.first s.pair.second).copy in
+      laws.ready_many h view_of (laws.fit_ready h view_of (of_beside (λ d k p. k.alive ≡ true → steadies.fits k.copy view_of ≡ true) dev ckpt s.pair.first s.pair.second s.first s.second s.ready is))
 
   -- what each copy reads that counts as alive is later than what members noted, and so is what waits behind its gate
   pub pasts_of : Laws plants steadies copies → plants.tells → KeepsAt view_of → HavePasts (page_count s.base.config) (values_of s.had) (λ d. sight_at (half_of d) (place_of d) d view_of)
@@ -197,14 +181,20 @@ module _ {P C : Type 0} {plants : PlantGhosts P} {steadies : SteadyGhosts C} {co
     bytes_at Opened sure side = let w = coming_of k.pages.coming _ side in rw (laws.rests_now (half_of d).copy (sent k.pages.coming) (disk_now view_of d) w.1) (inr w.0)
     bytes_at Unsure sure side = side (disk_now view_of d).bytes (image_now (disk_now view_of d) (laws.there s.plant told d (sure refl)))
 
-  -- a device that is lost stays so
-  pub lost_after : (v : View) → Goes view_of v → LostOn s.pair s.first s.second v
-  lost_after v goes d ckpt dead shut = goes.lost (DiskPart d) (s.lost d ckpt dead shut)
-
   -- ANOTHER BOOK, and what is reserved or nothing
   pub booked : (is : Book) {after : Book} (left : Option (List Entry)) → is ≡ after → Booked s.current s.book after → (left ≡ None) ⊎ (left ≡ s.reserved) → FactsOf plants steadies copies (record (parts_of s) { book = is; reserved = left }) view_of
   booked is {after} left same book fewer = subst (λ (x : Book). FactsOf plants steadies copies (record (parts_of s) { book = x; reserved = left }) view_of) (sym same)
-      (facts_with s.pair s.first s.second view_of s.printed after left s.renewals (le_refl view_of.now) s.kept (paper_with view_of after (passes_none view_of) (λ told t from le m. still_none (λ w. w.paper m) view_of t from le) book.up) s.ready s.lost book.owned fewer)
+      (facts_with s.pair s.first s.second view_of s.printed after left s.renewals (le_refl view_of.now) s.kept (paper_with view_of after (record { later = le_refl view_of.now; past = λ t le. refl; stops = λ m. le_refl (view_of.stops m); volumes = λ n lost. lost }) (λ told t from le m. still_none (λ w. w.paper m) view_of t from le) book.up) s.ready s.lost book.owned fewer)
+
+  -- ANOTHER PLACE at the end of the journal, or none, where the batches that have their fates are the same
+  pub placed_as : (js : List Batch) (placed : Bool) → past_batches placed js ≡ past_of → (IsSome s.current → placed ≡ true) → (IsSome s.reserved → placed ≡ true) → ∥ HasPlace placed js ∥₁ → AreSettled js view_of.now → length js ≤ journal_most → AreFew placed js
+      → FactsOf plants steadies copies (record (parts_of s) { batches = js; placed = placed }) view_of
+  placed_as js placed same current reserved place settled few counted =
+      let kept : plants.tells → ∥ Keeps setting_of (past_batches placed js) s.current s.level copies_of view_of ∥₁ = subst (λ (l : List Batch). plants.tells → ∥ Keeps setting_of l s.current s.level copies_of view_of ∥₁) (sym same) s.kept in
+      let replied : plants.tells → ∥ AreReplied s.base (past_batches placed js ++ in_flight s.current) ∥₁ = subst (λ (l : List Batch). plants.tells → ∥ AreReplied s.base (l ++ in_flight s.current) ∥₁) (sym same) s.replied in
+      let paper : plants.tells → IsSound s.base → ∥ KeepsPaper s.base s.since (past_batches placed js) s.current (s.printed, s.book) view_of ∥₁
+      = subst (λ (l : List Batch). plants.tells → IsSound s.base → ∥ KeepsPaper s.base s.since l s.current (s.printed, s.book) view_of ∥₁) (sym same) s.paper in
+      assumption (kept, replied, paper, current, reserved, place, settled, few, counted, s)
 
   module _ (v : View) where
     -- what an act leaves that goes elsewhere than to the copies
@@ -214,49 +204,46 @@ module _ {P C : Type 0} {plants : PlantGhosts P} {steadies : SteadyGhosts C} {co
       pub stays : Stays setting_of (kept_all past_of) (entries_in s.current) view_of v
 
 module _ {P C : Type 0} {plants : PlantGhosts P} {steadies : SteadyGhosts C} {copies : CopyGhosts C} (s : Complex P C plants steadies copies) (new : View) (time : new.now ≡ next (plants.view s.plant).now) where
-  abbrev view_was : View
-  view_was = plants.view s.plant
-
-  pub at_end : (t : ℕ) → view_was.now < t → t ≤ new.now → t ≡ new.now
+  pub at_end : (t : ℕ) → (view_of s).now < t → t ≤ new.now → t ≡ new.now
   at_end t lt le = omega (arith, time)
 
   -- an act that leaves each device as it is
-  pub beside_devices : ((d : Dev) → disk_now new d ≡ disk_now view_was d) → Adds (setting_of s) (past_of s ++ in_flight s.current) view_was new → Beside s new
+  pub beside_devices : ((d : Dev) → disk_now new d ≡ disk_now (view_of s) d) → Adds (setting_of s) (past_of s ++ in_flight s.current) (view_of s) new → Beside s new
   beside_devices disks adds = record {
     disks = λ d ckpt. disks d;
     adds = adds;
-    stays = stays_same (setting_of s) (kept_all (past_of s)) (entries_in s.current) view_was new (λ t lt le n. subst (λ (m : ℕ). disk_at new m (Spool n) ≡ disk_now view_was (Spool n)) (sym (at_end t lt le)) (disks (Spool n)));
+    stays = stays_same (setting_of s) (kept_all (past_of s)) (entries_in s.current) (view_of s) new (λ t lt le n. subst (λ (m : ℕ). disk_at new m (Spool n) ≡ disk_now (view_of s) (Spool n)) (sym (at_end t lt le)) (disks (Spool n)));
   }
 
   -- one that says nothing either
-  pub beside_all : ((d : Dev) → disk_now new d ≡ disk_now view_was d) → (new.world new.now).console ≡ (view_was.world view_was.now).console → Beside s new
-  beside_all disks console = beside_devices disks (adds_none (setting_of s) (past_of s ++ in_flight s.current) view_was new time console)
+  pub beside_all : ((d : Dev) → disk_now new d ≡ disk_now (view_of s) d) → (new.world new.now).console ≡ ((view_of s).world (view_of s).now).console → Beside s new
+  beside_all disks console = beside_devices disks (adds_none (setting_of s) (past_of s ++ in_flight s.current) (view_of s) new time console)
 
   -- one on a spool volume
-  pub beside_copies : (volume : ℕ) → OnDevice (Spool volume) view_was new → Stays (setting_of s) (kept_all (past_of s)) (entries_in s.current) view_was new → Beside s new
+  pub beside_copies : (volume : ℕ) → OnDevice (Spool volume) (view_of s) new → Stays (setting_of s) (kept_all (past_of s)) (entries_in s.current) (view_of s) new → Beside s new
   beside_copies volume only stays = record {
     disks = λ d ckpt. only.others d (λ e. volume_beside volume d ckpt (sym e));
-    adds = adds_none (setting_of s) (past_of s ++ in_flight s.current) view_was new time only.console;
+    adds = adds_none (setting_of s) (past_of s ++ in_flight s.current) (view_of s) new time only.console;
     stays = stays;
   }
 
-  module _ (laws : Laws plants steadies copies) (goes : Goes view_was new) where
-    pub beside_keeps : Beside s new → KeepsAt s view_was → KeepsAt s new
+  module _ (laws : Laws plants steadies copies) (goes : Goes (view_of s) new) where
+    pub beside_keeps : Beside s new → KeepsAt s (view_of s) → KeepsAt s new
     beside_keeps b k =
         let S = setting_of s in
-        acts_keep S (past_of s) s.current s.level (copies_of s) (copies_of s) view_was new k (passes_of view_was new goes) k.pages
-        (λ d ckpt t from lt below. let e : view_was.now ≡ t = omega (arith, from, lt, time) in
-        subst (λ (m : ℕ). ReadsBy S (is_away S d) k.pages.was k.pages.coming (disk_at new m d)) e (subst (λ (w : PlantWorld). ReadsBy S (is_away S d) k.pages.was k.pages.coming (w.disk d)) (sym (goes.past view_was.now (omega arith)))
-        (copy_reads S k.pages.was (copies_of s d) (laws.reads (half_of s d) (place_of s d)) k.pages.coming d view_was (k.at d ckpt) (omega (arith, from, below)))))
-        b.adds b.stays (λ d ckpt. moved S k.pages.was k.pages.coming d (copies_of s d) view_was new goes.later (b.disks d ckpt) (k.at d ckpt)) k.later
+        acts_keep S (past_of s) s.current s.level (copies_of s) (copies_of s) (view_of s) new k (passes_of (view_of s) new goes) k.pages
+        (λ d ckpt t from lt below. let e : (view_of s).now ≡ t = omega (arith, from, lt, time) in
+        subst (λ (m : ℕ). ReadsBy S (is_away S d) k.pages.was k.pages.coming (disk_at new m d)) e (subst (λ (w : PlantWorld). ReadsBy S (is_away S d) k.pages.was k.pages.coming (w.disk d)) (sym (goes.past (view_of s).now (omega arith)))
+        (copy_reads S k.pages.was (copies_of s d) (laws.reads (half_of s d) (place_of s d)) k.pages.coming d (view_of s) (k.at d ckpt) (omega (arith, from, below)))))
+        b.adds b.stays (λ d ckpt. moved S k.pages.was k.pages.coming d (copies_of s d) (view_of s) new goes.later (b.disks d ckpt) (k.at d ckpt)) k.later
 
     pub left_with : (printed : List ℕ) (is : Book) (left : Option (List Entry)) → (plants.tells → Beside s new) → (plants.tells → IsSound s.base → ∥ KeepsPaper s.base s.since (past_of s) s.current (printed, is) new ∥₁) → IsOwned s.current is → (left ≡ None) ⊎ (left ≡ s.reserved)
         → FactsOf plants steadies copies (record (parts_of s) { printed = printed; book = is; reserved = left }) new
     left_with printed is left beside paper owned fewer = facts_with s s.pair s.first s.second new printed is left s.renewals goes.later
-        (λ told. ∥∥₁_map (s.kept told) (λ k. beside_keeps (beside told) k)) paper (ready_after s new goes) (lost_after s new goes) owned fewer
+        (λ told. ∥∥₁_map (s.kept told) (λ k. beside_keeps (beside told) k)) paper (λ d ckpt is. steadies.stays_fit (half_of s d).copy (view_of s) new goes (s.ready d ckpt is)) (λ d ckpt dead shut. goes.lost (DiskPart d) (s.lost d ckpt dead shut)) owned fewer
 
-    pub left_by : (plants.tells → Beside s new) → (plants.tells → SamePaper view_was new) → Left s new
-    left_by beside paper = left_with s.printed s.book s.reserved beside (paper_after s new goes (λ told. same_papers view_was new goes time (paper told))) s.owned (inr refl)
+    pub left_by : (plants.tells → Beside s new) → (plants.tells → SamePaper (view_of s) new) → Left s new
+    left_by beside paper = left_with s.printed s.book s.reserved beside (paper_after s new goes (λ told. same_papers (view_of s) new goes time (paper told))) s.owned (inr refl)
 
 -- A call on the copy of one device, and what it leaves of a shared value.
 
@@ -272,6 +259,10 @@ pub record Call {P C : Type 0} (plants : PlantGhosts P) (steadies : SteadyGhosts
   pub plant : P
   pub same : other dev pair.first pair.second ≡ other dev was.pair.first was.pair.second
   pub at : other dev first second ≡ other dev was.first was.second
+
+abbrev pub call_of : {P C : Type 0} {plants : PlantGhosts P} {steadies : SteadyGhosts C} {copies : CopyGhosts C} → Laws plants steadies copies → (was : Complex P C plants steadies copies) (dev : Dev) → IsCkpt dev → (pair : Pair C copies) (first second : Place) (plant : P)
+    → other dev pair.first pair.second ≡ other dev was.pair.first was.pair.second → other dev first second ≡ other dev was.first was.second → Call plants steadies copies
+call_of laws was dev ckpt pair first second plant same at = record { laws = laws; was = was; dev = dev; ckpt = ckpt; pair = pair; first = first; second = second; plant = plant; same = same; at = at }
 
 module _ {P C : Type 0} {plants : PlantGhosts P} {steadies : SteadyGhosts C} {copies : CopyGhosts C} (x : Call plants steadies copies) where
   abbrev S : Setting
@@ -336,12 +327,8 @@ module _ {P C : Type 0} {plants : PlantGhosts P} {steadies : SteadyGhosts C} {co
       (of_both (λ d h q. Went S p.was p.coming d (copy_of copies.rests copies.holds h q) old new) went
       (untouched S p.was p.coming near_dev copy_near old new (x.laws.reads near_it near_place) near passes.later (λ t from le. e.others t from le near_dev (beside x.dev x.ckpt)))) later
 
-  -- a copy that counts as alive did before
-  pub stays_by : (there.alive ≡ true → here.alive ≡ true) → (d : Dev) → IsCkpt d → (pick d x.pair.first x.pair.second).alive ≡ true → (half_of x.was d).alive ≡ true
-  stays_by stays = of_both (λ d h q. h.alive ≡ true → (half_of x.was d).alive ≡ true) stays (of_near (λ d h q. h.alive ≡ true → (half_of x.was d).alive ≡ true) (λ d ckpt is. is))
-
   pub keeps_same : Passes old new → Elsewhere x.dev old new → (there.alive ≡ true → here.alive ≡ true) → (k : KeepsAt x.was old) → Went S k.pages.was k.pages.coming x.dev copy_there old new → KeepsOn x.was x.pair x.first x.second new
-  keeps_same passes e stays k went = keeps_on passes e k k.pages (at_near k) went (λ d ckpt is. k.later d ckpt (stays_by stays d ckpt is))
+  keeps_same passes e stays k went = keeps_on passes e k k.pages (at_near k) went (λ d ckpt is. k.later d ckpt (of_both (λ d h q. h.alive ≡ true → (half_of x.was d).alive ≡ true) stays (of_near (λ d h q. h.alive ≡ true → (half_of x.was d).alive ≡ true) (λ d ckpt is. is)) d ckpt is))
 
   pub ready_on : ((d : Dev) → new.size d ≡ old.size d) → (there.alive ≡ true → steadies.fits there.copy new ≡ true) → ReadyOn x.was x.pair x.first x.second new
   ready_on sizes ready = of_both (λ d h p. h.alive ≡ true → steadies.fits h.copy new ≡ true) ready
@@ -362,19 +349,9 @@ module _ {P C : Type 0} {plants : PlantGhosts P} {steadies : SteadyGhosts C} {co
 
   -- a copy that counts as lost after acts
   pub lost_acted : (by : ℕ) (stopped : Bool) → Acted by x.dev here.alive there.alive stopped old new → IsSunk new x.dev there place_is
-  lost_acted by stopped acted = still_lost by x.dev here.alive there.alive stopped old new acted (x.was.lost x.dev x.ckpt)
-
-  -- what the call changes
-  abbrev pub parts : Parts P C
-  parts = parts_with x.was x.plant x.pair x.first x.second
-
-  pub frame_of : parts ≡ with_copy x.dev parts (parts_of x.was)
-  frame_of = frame_on x.was x.plant x.pair x.first x.second x.dev x.ckpt x.same x.at
+  lost_acted by stopped acted = pair_lost x.dev here.alive there.alive old new acted.goes acted.is_lost (x.was.lost x.dev x.ckpt)
 
 -- A batch begins, or the one in flight gets its fate: what the type says after that.
-
-not_flying : (f : Fate) → (f ≡ Kept) ⊎ (f ≡ Dropped) → is_flying f ≡ false
-not_flying f either = ⊎_elim (λ e. ap is_flying e) (λ e. ap is_flying e) either
 
 -- all that the type says of a value, with the batch in flight, if there is one
 pub facts_at : {P C : Type 0} {plants : PlantGhosts P} {steadies : SteadyGhosts C} {copies : CopyGhosts C} (s : Complex P C plants steadies copies) (c : Option Batch) → s.current ≡ c → FactsOf plants steadies copies (record (parts_of s) { current = c }) (view_of s)
@@ -396,26 +373,20 @@ module _ {P C : Type 0} (plants : PlantGhosts P) (steadies : SteadyGhosts C) (co
 
   pub begins : FactsOf plants steadies copies (record x { current = None }) v → (b : Batch) → x.placed ≡ true → b.fate ≡ Flying → b.first ≡ v.now → x.book.holder ≡ b.by → (es : List Entry) → es ≡ b.entries → MayStart (kept_all x.batches) b.by es
       → (reserved : Option (List Entry)) (printed : List ℕ) → reserved ≡ None → printed ≡ printed_after b.by b.entries x.printed → FactsOf plants steadies copies (record x { current = Some b; reserved = reserved; printed = printed }) v
-  begins f b placed flies first holds es same may reserved printed none counts = subst (λ (l : List ℕ). FactsOf plants steadies copies (record x { current = Some b; reserved = reserved; printed = l }) v) (sym counts) (subst (λ (o : Option (List Entry)). FactsOf plants steadies copies (record x { current = Some b; reserved = o; printed = printed_after b.by b.entries x.printed }) v) (sym none) (record {
-    kept = λ told. ∥∥₁_map₂ (f.kept told) (at.texts told) (λ k has. begins_keep _ past b x.level _ v k flies first (each_tells Closes (λ m s. has_step m s b.entries ≡ false) (said (setting copies.reads x.base x.since) v v.now) (at.untold told)) has);
-    replied = λ told. ∥∥₁_map₂ (f.replied told) (at.replied told) (λ are have. begun_replied x.base past b are have);
-    paper = λ told sound. ∥∥₁_elim (f.kept told) ∥∥₁_prop (λ k. ∥∥₁_map₂ (f.paper told sound) (at.allowed told sound) (λ on allowed. begins_on_paper x.base x.since past b x.printed x.book v k.started k.settled flies first sound on at.own allowed));
-    ready = f.ready;
-    lost = f.lost;
-    one = λ some has. absurd (no false has refl);
-    place_reserved = λ has. absurd (no false has refl);
-    place_current = λ some. placed;
-    place = f.place;
-    settled = f.settled;
-    begun = (flies, omega (arith, first));
-    owned = owned_own b x.book holds;
-    few = f.few;
-    short = at.short;
-    short_reserved = omega arith;
-    counted = f.counted;
-  })) where
-    at : MayStart (kept_all past) b.by b.entries
-    at = subst (λ (K : List Entry). MayStart K b.by b.entries) (sym (past_kept x.placed x.batches f.place)) (subst (λ (l : List Entry). MayStart (kept_all x.batches) b.by l) same may)
+  begins f b placed flies first holds es same may reserved printed none counts = subst (λ (l : List ℕ). FactsOf plants steadies copies (record x { current = Some b; reserved = reserved; printed = l }) v) (sym counts) (subst (λ (o : Option (List Entry)). FactsOf plants steadies copies (record x { current = Some b; reserved = o; printed = printed_after b.by b.entries x.printed }) v) (sym none) (
+      let kept : plants.tells → ∥ KeepsOf plants steadies copies (record x { current = Some b }) v ∥₁ = λ told. ∥∥₁_map₂ (f.kept told) (at.texts told) (λ k has. begins_keep _ past b x.level _ v k flies first (each_tells Closes (λ m s. has_step m s b.entries ≡ false) (said (setting copies.reads x.base x.since) v v.now) (at.untold told)) has) in
+      let replied : plants.tells → ∥ AreReplied x.base (past ++ b ∷ []) ∥₁ = λ told. ∥∥₁_map₂ (f.replied told) (at.replied told) (λ are have. replied_both x.base past (b ∷ []) (replied_front x.base past [] are) (have, tt)) in
+      let paper : plants.tells → IsSound x.base → ∥ KeepsPaper x.base x.since past (Some b) (printed_after b.by b.entries x.printed, x.book) v ∥₁ = λ told sound.
+      ∥∥₁_elim (f.kept told) ∥∥₁_prop (λ k. ∥∥₁_map₂ (f.paper told sound) (at.allowed told sound) (λ on allowed. begins_on_paper x.base x.since past b x.printed x.book v k.started k.settled flies first sound on at.own allowed)) in
+      let one : IsSome (Some b) → false ≡ true → ⊥ = λ some has. no false has refl in
+      let place_reserved : false ≡ true → x.placed ≡ true = λ has. absurd (no false has refl) in
+      let place_current : IsSome (Some b) → x.placed ≡ true = λ some. placed in
+      let begun : IsBegun (Some b) v.now = (flies, omega (arith, first)) in
+      let short_reserved : length (entries_reserved None) ≤ entries_most = omega arith in
+      let owned : IsOwned (Some b) x.book = λ batch is other. let same : batch.by ≡ x.book.holder = cc in absurd (other same) in
+      assumption (kept, replied, paper, one, place_reserved, place_current, begun, owned, short_reserved, at, f))) where
+        at : MayStart (kept_all past) b.by b.entries
+        at = subst (λ (K : List Entry). MayStart K b.by b.entries) (sym (past_kept x.placed x.batches f.place)) (subst (λ (l : List Entry). MayStart (kept_all x.batches) b.by l) same may)
 
   abbrev pub after_end : List Batch → Option Batch → Place → Place → ℕ → Parts P C
   after_end js current first second level = record x { batches = js; current = current; placed = false; first = first; second = second; level = level }
@@ -426,7 +397,7 @@ module _ {P C : Type 0} (plants : PlantGhosts P) (steadies : SteadyGhosts C) (co
   ends b f c either same_first same_entries now js current first second level same none keeps =
       subst (λ (l : List Batch). FactsOf plants steadies copies (after_end l current first second level) v) (is ∙ sym same) (subst (λ (o : Option Batch). FactsOf plants steadies copies (after_end (past ++ c ∷ []) o first second level) v) (sym none) (record {
         kept = keeps;
-        replied = λ told. ∥∥₁_map (f.replied told) (λ are. fated_replied x.base past b c are same_entries);
+        replied = λ told. ∥∥₁_map (f.replied told) (λ are. subst (λ (l : List Batch). AreReplied x.base l) (sym (append-nil (past ++ c ∷ []))) (replied_both x.base past (c ∷ []) (replied_front x.base past (b ∷ []) are) (subst (λ (es : List Entry). HaveReplies (run x.base (kept_all past)) es) (sym same_entries) (replied_rest x.base past (b ∷ []) are).0, tt)));
         paper = λ told sound. ∥∥₁_map (f.paper told sound) (λ on. fated_on_paper x.base x.since past b c x.printed x.book v on f.begun.0 same_first same_entries now either);
         ready = f.ready;
         lost = f.lost;
@@ -434,7 +405,7 @@ module _ {P C : Type 0} (plants : PlantGhosts P) (steadies : SteadyGhosts C) (co
         place_reserved = λ reserved. absurd (f.one refl reserved);
         place_current = λ some. absurd (no false some refl);
         place = ∣ tt ∣₁;
-        settled = subst (λ (l : List Batch). AreSettled l v.now) (sym is) (settled_with_last c x.batches v.now f.settled (not_flying c.fate either) (omega (arith, same_first, f.begun.1, now)) (omega (arith, now)));
+        settled = settled_push past c v.now (subst (λ (z : Bool). AreSettled (past_batches z x.batches) v.now) (sym (f.place_current refl)) (settled_without_last x.batches v.now f.settled)) (⊎_elim (λ e. ap is_flying e) (λ e. ap is_flying e) either) (omega (arith, same_first, f.begun.1, now)) (omega (arith, now));
         begun = tt;
         owned = owned_none x.book;
         few = subst (λ (l : List Batch). length l ≤ journal_most) (sym is) (few_with_last c x.batches f.few);
@@ -446,10 +417,6 @@ module _ {P C : Type 0} (plants : PlantGhosts P) (steadies : SteadyGhosts C) (co
         is = fated_past c x.placed x.batches (f.place_current refl) f.place
 
 -- A stop that is armed changes nothing of which a shared value keeps a fact.
-
--- the view with these counts of stops that were armed
-abbrev with_arms : View → (ℕ → ℕ) → View
-with_arms v arms = record v { arms = arms }
 
 pub left_armed : {P C : Type 0} {plants : PlantGhosts P} {steadies : SteadyGhosts C} {copies : CopyGhosts C} (s : Complex P C plants steadies copies) (m : ℕ) (new : View) → Arms m (view_of s) new → Left s new
 left_armed {steadies = steadies} s m new armed = subst (λ (v : View). Left s v) (sym armed.same) (facts s s.pair s.first s.second later (le_refl was.now)
@@ -465,7 +432,7 @@ left_armed {steadies = steadies} s m new armed = subst (λ (v : View). Left s v)
       was = view_of s
 
       later : View
-      later = with_arms was new.arms
+      later = record was { arms = new.arms }
 
       passes : Passes was later
       passes = record { later = le_refl was.now; past = λ t le. refl; stops = λ j. le_refl (was.stops j); volumes = λ n lost. lost }
@@ -473,9 +440,6 @@ left_armed {steadies = steadies} s m new armed = subst (λ (v : View). Left s v)
 -- Acts on a spool volume: no copy changes, and nothing is said.
 
 module _ {P C : Type 0} {plants : PlantGhosts P} {steadies : SteadyGhosts C} {copies : CopyGhosts C} (s : Complex P C plants steadies copies) (p : P) (time : (plants.view p).now ≡ next (plants.view s.plant).now) (laws : Laws plants steadies copies) (told : plants.tells) where
-  abbrev before_act : View
-  before_act = plants.view s.plant
-
   abbrev after_act : View
   after_act = plants.view p
 
@@ -489,7 +453,7 @@ module _ {P C : Type 0} {plants : PlantGhosts P} {steadies : SteadyGhosts C} {co
   abbrev Has : View → (ℕ → Bool) → List Entry → Type 0
   Has v gone es = HasTexts gone (spools_at v v.now) s.base.config.groups (run s.base es)
 
-  stays_after : ((gone : ℕ → Bool) (coming : Bool) → Has before_act gone (es_of coming) → Has after_act gone (es_of coming)) → Stays (setting_of s) K (entries_in s.current) before_act after_act
+  stays_after : ((gone : ℕ → Bool) (coming : Bool) → Has (view_of s) gone (es_of coming) → Has after_act gone (es_of coming)) → Stays (setting_of s) K (entries_in s.current) (view_of s) after_act
   stays_after has_after = record {
     texts = λ gone t lt le coming has. subst (λ (m : ℕ). HasTexts gone (spools_at after_act m) s.base.config.groups (run s.base (es_of coming))) (sym (at_end s after_act time t lt le)) (has_after gone coming has);
     sunk = λ t lt le n lost.
@@ -497,29 +461,16 @@ module _ {P C : Type 0} {plants : PlantGhosts P} {steadies : SteadyGhosts C} {co
   }
 
   -- an act that changes no byte
-  beside_quiet : (volume : ℕ) → OnDevice (Spool volume) before_act after_act → Quiet (disk_now before_act (Spool volume)) (disk_now after_act (Spool volume)) → Beside s after_act
+  pub beside_quiet : (volume : ℕ) → OnDevice (Spool volume) (view_of s) after_act → Quiet (disk_now (view_of s) (Spool volume)) (disk_now after_act (Spool volume)) → Beside s after_act
   beside_quiet volume only here =
-      let each = each_quiet volume before_act after_act here only in
-      beside_copies s after_act time volume only (stays_after (λ gone coming has. texts_quiet s.base.config.groups (spools_at before_act before_act.now) (spools_at after_act after_act.now) gone (run s.base (es_of coming)) each has))
-
-  pub beside_read : (group : GroupNo) (into : Page) (act : Act) → ReadsGroup s.base.config.groups group before_act after_act into act → Beside s after_act
-  beside_read group into act reads =
-      let per = s.base.config.groups in
-      let within = is_within before_act per group in
-      beside_quiet (volume_of per group) reads.only (read_quiet (page_start within (start_of per group)) (page_part within into.0) (disk_now before_act (device_of per group)) (disk_now after_act (device_of per group)) act reads.disk)
-
-  pub beside_sync : (volume : ℕ) (act : Act) → Syncs (Spool volume) before_act after_act act → Beside s after_act
-  beside_sync volume act syncs = beside_quiet volume syncs.only (sync_quiet (disk_now before_act (Spool volume)) (disk_now after_act (Spool volume)) act syncs.disk)
-
-  pub beside_lost : (volume : ℕ) → LosesThere (Spool volume) before_act after_act → Beside s after_act
-  beside_lost volume loses = beside_quiet volume loses.only (quiet_untouched (disk_now before_act (Spool volume)) (disk_now after_act (Spool volume)) loses.disk)
+      beside_copies s after_act time volume only (stays_after (λ gone coming has. texts_quiet s.base.config.groups (spools_at (view_of s) (view_of s).now) (spools_at after_act after_act.now) gone (run s.base (es_of coming)) (each_quiet volume (view_of s) after_act here only) has))
 
   -- a write to a group that is the member's in both queues
   pub beside_write : AreItsOwn → (by : MemberId) (group : GroupNo) (bytes : Page) (act : Act) → length bytes.0 ≡ page_bytes → IsHeldBy by group (run s.base (kept_all s.journal.batches)) → IsHeldBy by group (run s.base (kept_all s.journal.batches ++ entries_in s.current))
-      → WritesGroup s.base.config.groups group before_act after_act bytes act → Beside s after_act
+      → WritesGroup s.base.config.groups group (view_of s) after_act bytes act → Beside s after_act
   beside_write own by group bytes act long one two writes =
       let per = s.base.config.groups in
-      beside_copies s after_act time (volume_of per group) writes.only (stays_after (λ gone coming has. texts_written per group before_act after_act bytes act long writes own by gone (run s.base (es_of coming)) (held coming) has)) where
+      beside_copies s after_act time (volume_of per group) writes.only (stays_after (λ gone coming has. texts_written per group (view_of s) after_act bytes act long writes own by gone (run s.base (es_of coming)) (held coming) has)) where
         held : (coming : Bool) → IsHeldBy by group (run s.base (es_of coming))
         held false = subst (λ (es : List Entry). IsHeldBy by group (run s.base es)) (sym (kept_past s)) one
         held true = subst (λ (es : List Entry). IsHeldBy by group (run s.base (es ++ entries_in s.current))) (sym (kept_past s)) two

@@ -142,14 +142,24 @@ pub record Versions (S : Setting) (reached : ℕ) (K F : List Entry) (l order : 
   pub near : IsNear l order was
   pub comes_near : IfSome coming (IsNear l order)
 
+-- the level and next order from which pages have risen, and the greatest level that they have reached
+pub record Span : Type 0 where
+  pub from_level : ℕ
+  pub from_order : ℕ
+  pub most : ℕ
+
+abbrev pub span_of : ℕ → ℕ → ℕ → Span
+span_of l order most = record { from_level = l; from_order = order; most = most }
+
 -- The devices of the copies agree at a moment: there are pages of the kept entries, and maybe ones in flight, and each
 -- image of each device reads as one of these. With no entry in flight each reads as the kept pages. A copy that is
 -- being replaced reads as none, or as pages that were kept by then. Their level is at most so high.
-pub record Alike (S : Setting) (l order most : ℕ) (K F : List Entry) (t : ℕ) (disks : Dev → Disk) : Type 0 where
+pub record Alike (S : Setting) (span : Span) (K F : List Entry) (t : ℕ) (disks : Dev → Disk) : Type 0 where
   pub reached : ℕ
-  pub low : reached ≤ most
-  pub pages : Versions S reached K F l order
-  pub reads : (d : Dev) → IsCkpt d → ReadsBy S (is_renewed_at (of_device d S.renewals) t) pages.was pages.coming (disks d)
+  pub low : reached ≤ span.most
+  pub pages : Versions S reached K F span.from_level span.from_order
+  pub reads : (d : Dev) → IsCkpt d
+      → ReadsBy S (is_renewed_at (of_device d S.renewals) t) pages.was pages.coming (disks d)
 
 -- the whole lines tell only steps of which P holds
 abbrev pub EachTells : (List ℕ → MemberId → ℕ → Type 0) → List Line → (MemberId → ℕ → Type 0) → Type 0
@@ -167,7 +177,8 @@ whole text = record { text = text; whole = true }
 
 -- P holds of each step that one of the whole lines tells
 abbrev pub TellOnly : (List ℕ → MemberId → ℕ → Type 0) → List Line → (MemberId → ℕ → Type 0) → Type 0
-TellOnly closes lines P = (text : List ℕ) → Contains lines (whole text) → (m : MemberId) (s : ℕ) → closes text m s → P m s
+TellOnly closes lines P =
+    (text : List ℕ) → Contains lines (whole text) → (m : MemberId) (s : ℕ) → closes text m s → P m s
 
 -- each step told at a moment was kept by then
 abbrev pub ToldAt : Setting → List Batch → View → ℕ → Type 0
@@ -254,11 +265,14 @@ TextsAt S K F v t = (coming : Bool) → HasTexts (lost_now v) (spools_at v t) S.
 abbrev pub AreSunk : View → ℕ → Type 0
 AreSunk v t = (n : ℕ) → (spools_at v t n).lost ≡ true → lost_now v n ≡ true
 
+-- the texts stand, and what the world shows as lost is lost
+abbrev pub TextsStand : Setting → List Entry → List Entry → View → ℕ → Type 0
+TextsStand S K F v t = TextsAt S K F v t × AreSunk v t
+
 -- a past moment, at which these entries were kept and those in flight
-pub record Moment (S : Setting) (l order most : ℕ) (K F : List Entry) (v : View) (t : ℕ) : Type 0 where
-  pub alike : t < top → Alike S l order most K F t (disk_at v t)
-  pub texts : TextsAt S K F v t
-  pub sunk : AreSunk v t
+pub record Moment (S : Setting) (span : Span) (K F : List Entry) (v : View) (t : ℕ) : Type 0 where
+  pub alike : t < top → Alike S span K F t (disk_at v t)
+  pub stood : TextsStand S K F v t
 
 -- the pages of the kept entries, and those in flight, if there are any, are later than those that members noted
 abbrev pub AreNotedBefore : Setting → List ℕ → Option (List ℕ) → Type 0
@@ -276,12 +290,11 @@ pub record Keeps (S : Setting) (js : List Batch) (current : Option Batch) (reach
   pub renewed : (d : Dev) → IsCkpt d → AreRenewedBy (of_device d S.renewals) v.now
   pub first_level : ℕ
   pub first_order : ℕ
-  pub past : (t : ℕ) → S.since ≤ t → t < v.now → Moment S first_level first_order reached
+  pub past : (t : ℕ) → S.since ≤ t → t < v.now → Moment S (span_of first_level first_order reached)
       (kept (js ++ in_flight current) t) (flying (js ++ in_flight current) t) v t
   pub told : (t : ℕ) → S.since ≤ t → t ≤ v.now → ToldAt S (js ++ in_flight current) v t
   pub grows : (t : ℕ) → S.since ≤ t → t ≤ v.now → Begins (v.world t).console (v.world v.now).console
-  pub texts : TextsAt S (kept_all js) (entries_in current) v v.now
-  pub sunk : AreSunk v v.now
+  pub stood : TextsStand S (kept_all js) (entries_in current) v v.now
   pub first : S.since < top → (d : Dev) → IsCkpt d → ReadsAtLevel S.reads first_level first_order
       (disk_at v S.since d)
   pub risen : reached ≤ first_level + batches_kept js

@@ -11,11 +11,11 @@ use Rattle.mas_complex.specs.Journals.{with_last, fated, entries_in, kept_all}
 use Rattle.mas_complex.specs.Fits.{fits, can_stay, found_numbers}
 use Rattle.mas_complex.specs.Places.{IsAtLevel}
 
--- pages that are as many as they should be; others count as none
-abbrev pub usable : ℕ → Look → Look
-usable count Lost = Lost
-usable count Unread = Unread
-usable count (Pages pages) = if length pages == count then Pages pages else Unread
+-- what a look gave is used so, where there should be so many pages: other numbers of pages count as none
+abbrev pub IsUsed : ℕ → Look → Look → Type 0
+IsUsed count look Lost = look ≡ Lost
+IsUsed count look Unread = (look ≡ Unread) ⊎ ((pages : List Page) × (look ≡ Pages pages) × (length pages ≢ count))
+IsUsed count look (Pages pages) = (look ≡ Pages pages) × (length pages ≡ count)
 
 -- P holds of the pages that a look gave
 abbrev pub IfPages : Look → (List Page → Type 0) → Type 0

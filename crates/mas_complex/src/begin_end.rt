@@ -83,6 +83,7 @@ impl<P: Plant + Drop, C: Steady + Drop> Complex<P, C> {
 
     /// Hands out the plant, the base, the first moment and the journal, of which the headline holds, and whose entries
     /// have their replies.
+    #[tactic(auto, using(crate::proofs::Batches::end_is))]
     pub fn end(self) -> Ended<P>
         ensures plant { result.plant ≡ self.plant }
         ensures base { result.base ≡ self.base }

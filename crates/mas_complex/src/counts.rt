@@ -38,6 +38,7 @@ fn is_any_anew(briefs: &[BriefEntry], by: MemberId) -> bool
 }
 
 // Whether the member begins to count anew with one of the entries.
+#[tactic(auto, using(crate::proofs::Batches::any_anew))]
 fn has_anew(entries: &BriefEntries, by: MemberId) -> bool
     ensures { result ≡ list_any (begins_anew by) entries.now }
 {
@@ -45,7 +46,7 @@ fn has_anew(entries: &BriefEntries, by: MemberId) -> bool
 }
 
 // A count falls to 0; one that isn't there stays away.
-#[tactic(auto, using(crate::proofs::Papers::past_same))]
+#[tactic(auto, using(std::proofs::lemmas::List::set_past))]
 fn forget(printed: &mut [u32; COUNTS], at: usize)
     ensures { printed.new ≡ slice_set printed.old at 0 }
 {

@@ -13,6 +13,7 @@ use mas_types::limits::PAGES_MOST;
 pub(crate) const NUMBERS: usize = PAGES_MOST as usize;
 
 /// Whether two lists of pages are the same, byte for byte.
+#[tactic(auto, using(crate::proofs::Found::same_only))]
 pub fn same_pages(found: &[Page], other: &[Page]) -> bool
     ensures { result ≡ are_same found.now other.now }
 {
@@ -28,6 +29,7 @@ pub fn same_pages(found: &[Page], other: &[Page]) -> bool
 }
 
 // The pages of two copies differ only in those of this level, as the first page found gives it.
+#[tactic(auto, using(crate::proofs::Found::differ_only))]
 fn differ_only_at(found: &[Page], other: &[Page], reached: u64) -> bool
     requires few { length found.now ≤ pages_most }
     ensures { result ≡ differ_at (first_page found.now) reached 0 found.now other.now }

@@ -25,6 +25,7 @@ pub(crate) fn push_place(journal: &mut BriefJournal, place: BriefBatch) -> Resul
 }
 
 // The last batch is this one instead.
+#[tactic(auto, using(crate::proofs::Batches::last_put))]
 pub(crate) fn set_last(journal: &mut BriefJournal, batch: BriefBatch)
     ensures { journal.new.batches ≡ with_last batch journal.old.batches }
 {
@@ -44,6 +45,7 @@ pub(crate) fn end_last(journal: &mut BriefJournal, batch: BriefBatch, fate: Fate
 }
 
 // The last batch goes.
+#[tactic(auto, using(crate::proofs::Batches::last_removed))]
 pub(crate) fn drop_last(journal: &mut BriefJournal)
     ensures { journal.new.batches ≡ without_last journal.old.batches }
 {

@@ -137,12 +137,15 @@ impl<P: Plant + Drop, C: Steady + Drop> Complex<P, C> {
         ensures frame { OnOk result (parts_of self.new
             ≡ record (parts_of self.old) { book = after_free self.old.book by inner; reserved = None }) }
         ensures none { OnErr result (parts_of self.new ≡ parts_of self.old) }
+        ensures all { parts_of self.new ≡ record (parts_of self.old)
+            { book = after_free self.old.book by inner; reserved = self.new.reserved } }
     {
         give_up_after_free(&mut self.book, &mut self.reserved, by, inner)
     }
 
     /// The member that holds the lock leaves it in the middle of a step, for acts beside it. A batch that is reserved
     /// and hasn't begun is given up. Nothing may be in flight.
+    #[tactic(auto, using(crate::proofs::Batches::left_after_free))]
     pub fn leave_lock(&mut self, by: MemberId)
         requires may { MayAct self.old.book by }
         requires member { IsMember self.old.book by }
@@ -165,7 +168,7 @@ impl<P: Plant + Drop, C: Steady + Drop> Complex<P, C> {
             ≡ record (parts_of self.old) { book = after_free self.old.book by true; reserved = None } }
     {
         self.reserved = None;
-        let _freed = self.book.free(by, true);
+        let _freed = self.free(by, true);
     }
 
     /// The member takes the lock again that it left in the middle of a step. Nothing refuses it, and the operator may
@@ -190,7 +193,7 @@ impl<P: Plant + Drop, C: Steady + Drop> Complex<P, C> {
         ensures book { self.new.book ≡ after_try self.old.book by true }
         ensures frame { parts_of self.new ≡ record (parts_of self.old) { book = after_try self.old.book by true } }
     {
-        let _taken = self.book.try_lock(by, true);
+        let _taken = self.try_lock(by, true);
     }
 
     /// The member is stopped. It still holds what it held. A batch of it that is reserved and hasn't begun is given up.

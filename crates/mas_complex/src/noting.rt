@@ -49,6 +49,7 @@ pub(crate) fn none_noted(none: &List<Page>) -> [Note; COUNTS]
 }
 
 // Writes the note of one member anew.
+#[tactic(auto, using(crate::proofs::Pasts::values_set, crate::proofs::Pasts::noted_here))]
 fn put_note(had: &mut [Note], at: usize, pages: &List<Page>)
     requires { at < length had.old }
     ensures written { values_of had.new ≡ slice_set (values_of had.old) at pages.now }

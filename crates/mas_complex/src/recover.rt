@@ -9,7 +9,7 @@ ghost use Rattle.mas_complex.specs.Crash.{next_order, order_first, orders_most};
 ghost use Rattle.mas_complex.specs.Meaning.{StandFor, run};
 ghost use Rattle.mas_complex.specs.Parts.{half_beside, half_on, parts_of, place_beside, place_on, with_copies, with_copy, with_half, with_pair};
 ghost use Rattle.mas_complex.specs.Places.{IsAtLevel};
-ghost use Rattle.mas_complex.specs.Seen.{IsOneSeen, ReadsSeen, looked, sought, Stays, HasFound, Chosen, DiffersAtFound, IsGreater, IsPicked, IsNextOr, IsFatedBy, IsUnfit, WasUnfit};
+ghost use Rattle.mas_complex.specs.Seen.{Agrees, IsOneSeen, OneSeen, ReadsSeen, looked, sought, Stays, HasFound, Chosen, DiffersAtFound, IsGreater, IsPicked, IsNextOr, IsFatedBy, IsUnfit, WasUnfit};
 ghost use Rattle.mas_complex.specs.Recovers.{recover_no, recover_no_seen, recover_stopped};
 ghost use Rattle.mas_complex.specs.Fits.{can_stay};
 ghost use Rattle.mas_complex.specs.Locking.{MayAct, IsOfOther};
@@ -74,6 +74,7 @@ fn page_order(page: &Page) -> u64
 }
 
 // The next order, which stands in the first page. It is 0 where there are no pages.
+#[tactic(auto, using(crate::proofs::Found::order_empty, crate::proofs::Found::order_head))]
 fn pages_order(pages: &[Page]) -> u64
     ensures { result ≡ next_order (bytes_of pages.now) }
 {
@@ -85,7 +86,7 @@ fn pages_order(pages: &[Page]) -> u64
 
 // A copy with these pages, which isn't lost, stays beside those found: it has them, or is one batch behind and has
 // room.
-#[tactic(auto, using(crate::proofs::Found::fits_many))]
+#[tactic(auto, using(crate::proofs::Found::fits_low, crate::proofs::Found::fits_same, crate::proofs::Found::fits_many))]
 fn may_stay(place: Place, room: u8, found: &[Page], other: &[Page]) -> bool
     requires few { length found.now ≤ pages_most }
     ensures stays { result ≡ true → Stays place room found.now other.now }
@@ -100,21 +101,44 @@ fn may_stay(place: Place, room: u8, found: &[Page], other: &[Page]) -> bool
 }
 
 impl<P: Plant + Drop, C: Steady + Drop> Complex<P, C> {
-    #[tactic(auto, using(crate::proofs::Counted::pair_none))]
-    fn lose_unless(&mut self, dev: Dev, stays: bool)
+    // The copy on one device, which isn't lost and has these other pages, stays beside those found.
+    fn stays_on(&self, dev: Dev, found: &[Page], other: &[Page]) -> bool
         requires ckpt { IsCkpt dev }
-        requires alive { (half_on dev self.old).alive ≡ true }
+        requires few { length found.now ≤ pages_most }
+        ensures stays { result ≡ true
+            → Stays (place_on dev self.now) (C.room (half_on dev self.now).copy) found.now other.now }
+        ensures fits { result ≡ can_stay (place_on dev self.now) (C.room (half_on dev self.now).copy) found.now
+            other.now }
+    {
+        match dev {
+            Dev::Ckpt1 => may_stay(self.first, self.pair.first.copy.room(), found, other),
+            Dev::Ckpt2 => may_stay(self.second, self.pair.second.copy.room(), found, other),
+            Dev::Spool(_) => unreachable!(),
+        }
+    }
+
+    // The copy on one device, which has these other pages, is lost unless it stays beside those found.
+    #[tactic(auto, using(crate::proofs::Counted::pair_none, crate::proofs::Found::agrees_stays))]
+    fn lose_unfit(&mut self, dev: Dev, found: &[Page], other: &[Page])
+        requires ckpt { IsCkpt dev }
+        requires few { length found.now ≤ pages_most }
+        requires seen { OneSeen P.tells (sought C.reads (parts_of self.old))
+            (looked C.count C.room (half_on dev self.old) (place_on dev self.old)) other.now }
+        requires reads { P.tells
+            → C.reads (disk_now (P.view self.old.plant) dev).bytes ≡ Some (bytes_of other.now) }
         ensures frame { parts_of self.new ≡ with_half dev (parts_of self.new) (parts_of self.old) }
         ensures other { half_beside dev self.new ≡ half_beside dev self.old }
-        ensures lost { stays ≡ false → (half_on dev self.new).alive ≡ false }
-        ensures stays { stays ≡ true → half_on dev self.new ≡ half_on dev self.old }
         ensures copy { (half_on dev self.new).copy ≡ (half_on dev self.old).copy }
-        ensures only { (half_on dev self.old).alive ≡ true → (half_on dev self.new).alive ≡ false → stays ≡ false }
+        ensures agrees { (half_on dev self.new).alive ≡ true → Agrees P.tells (sought C.reads (parts_of self.old))
+            (looked C.count C.room (half_on dev self.new) (place_on dev self.new))
+            (disk_now (P.view self.new.plant) dev).bytes found.now }
+        ensures unfit { (half_on dev self.new).alive ≡ false
+            → can_stay (place_on dev self.old) (C.room (half_on dev self.old).copy) found.now other.now ≡ false }
         ensures leaves { (by : ℕ) → OnPair P.tells by false (pair_of self.old) (pair_of self.new) }
         ensures bytes { P.tells → (d : Dev)
             → (disk_now (P.view self.new.plant) d).bytes ≡ (disk_now (P.view self.old.plant) d).bytes }
     {
-        if !stays {
+        if !self.stays_on(dev, found, other) {
             self.lose_copy(dev);
         }
     }
@@ -141,14 +165,10 @@ impl<P: Plant + Drop, C: Steady + Drop> Complex<P, C> {
             → can_stay self.old.second (C.room self.old.pair.second.copy) result second ≡ false }
     {
         if pages_level(first.as_slice()) < pages_level(second.as_slice()) {
-            let room = self.pair.first.copy.room();
-            let stays = may_stay(self.first, room, second.as_slice(), first.as_slice());
-            self.lose_unless(Dev::Ckpt1, stays);
+            self.lose_unfit(Dev::Ckpt1, second.as_slice(), first.as_slice());
             return second;
         }
-        let room = self.pair.second.copy.room();
-        let stays = may_stay(self.second, room, first.as_slice(), second.as_slice());
-        self.lose_unless(Dev::Ckpt2, stays);
+        self.lose_unfit(Dev::Ckpt2, first.as_slice(), second.as_slice());
         first
     }
 

@@ -1,5 +1,5 @@
 //! A lost copy is replaced.
-ghost use Rattle.mas_complex.specs.Names.{Ckpt1, Ckpt2, pages_least, pages_most, disk_now, Rose, top, Disk, bytes_of, NotLost, ReplaceNoBothLost as BothLost, Failed, ReplaceNoHalted as Halted, IsCkpt, pick, other, IsBothLost, Replaces, IsFormed, replace_stopped, Before as AtBefore};
+ghost use Rattle.mas_complex.specs.Names.{Ckpt1, Ckpt2, disk_now, Rose, top, Disk, bytes_of, NotLost, ReplaceNoBothLost as BothLost, Failed, ReplaceNoHalted as Halted, IsCkpt, pick, other, IsBothLost, Replaces, IsFormed, replace_stopped, Before as AtBefore};
 ghost use Rattle.std.specs.Prelude.{◌≡◌, ◌⊎◌, ◌≤◌, ◌<◌, ◌&&◌, not, Some, None, length, true, false, OnOk, OnErr, IsErrOf};
 ghost use Rattle.mas_complex.specs.Elsewhere.{Elsewhere};
 ghost use Rattle.mas_complex.specs.Locking.{MayAct};
@@ -28,6 +28,8 @@ impl<P: Plant + Drop, C: Steady + Drop> Complex<P, C> {
         requires ckpt { IsCkpt dev }
         requires dead { (half_on dev self.old).alive ≡ false }
         ensures pair { self.new.pair ≡ self.old.pair }
+        ensures plant { self.new.plant ≡ self.old.plant }
+        ensures places { (self.new.first ≡ self.old.first) × (self.new.second ≡ self.old.second) }
         ensures ok { OnOk result (parts_of self.new ≡ record (parts_of self.old)
             { renewals = begun_on dev (P.view self.old.plant).now self.old.renewals }) }
         ensures err { OnErr result (parts_of self.new ≡ parts_of self.old) }
@@ -46,8 +48,7 @@ impl<P: Plant + Drop, C: Steady + Drop> Complex<P, C> {
         requires began { (P.view self.old.plant).now < top → is_open (of_device dev self.old.renewals) ≡ true }
         requires beside { (half_beside dev self.old).alive ≡ true }
         requires place { place_beside dev self.old ≡ AtBefore }
-        requires enough { pages_least ≤ length pages.now }
-        requires few { length pages.now ≤ pages_most }
+        requires as_many { length pages.now ≡ C.count (half_beside dev self.old).copy }
         requires size { C.needs (length pages.now) ≤ (P.view self.old.plant).size dev }
         requires reads { P.tells → C.reads (disk_now (P.view self.old.plant) (other dev Ckpt1 Ckpt2)).bytes
             ≡ Some (bytes_of pages.now) }

@@ -5,7 +5,7 @@ ghost use Rattle.mas_complex.specs.CallCounts.{pair_of};
 ghost use Rattle.mas_complex.specs.Elsewhere.{OnPair};
 ghost use Rattle.mas_complex.specs.Journals.{entries_in};
 ghost use Rattle.mas_complex.specs.Parts.{half_beside, half_on, parts_of, place_beside, place_on, with_copy};
-ghost use Rattle.mas_complex.specs.Seen.{IfPages, IsPlaceSeen, HasNext, IsOneSeen, ReadsSeen, looked, sought, usable as usable_lem};
+ghost use Rattle.mas_complex.specs.Seen.{IfPages, IsPlaceSeen, HasNext, IsOneSeen, ReadsSeen, looked, sought, IsUsed};
 ghost use Rattle.mas_complex.specs.Begins.{queue_with};
 
 use crate::complex::Complex;
@@ -21,7 +21,7 @@ use std::alloc::Global;
 // What a look at a copy gave, if its pages are as many as they should be; else the copy counts as one that can't be
 // read.
 fn usable(look: Look, count: usize) -> Look
-    ensures usable { result ≡ usable_lem count look }
+    ensures used { IsUsed count look result }
     ensures sized { IfPages look (All (λ page. length page.0 ≡ page_bytes)) }
 {
     match look {
@@ -90,7 +90,7 @@ impl<P: Plant + Drop, C: Steady + Drop> Complex<P, C> {
         ensures other { half_beside dev self.new ≡ half_beside dev self.old }
         ensures halted { IsErrOf result LookNoHalted
             → Rose ((P.view self.old.plant).stops by.0) ((P.view self.new.plant).stops by.0) }
-        ensures stands { IsErrOf result LookNoHalted → (half_on dev self.new).alive ≡ true }
+        ensures stands { OnErr result ((half_on dev self.new).alive ≡ true) }
         ensures seen { IfOk result (λ pages. IsOneSeen P.tells (sought C.reads (parts_of self.old))
             (looked C.count C.room (half_on dev self.new) (place_on dev self.new)) pages) }
         ensures many { IfOk result (λ pages. IfSome pages (λ some. length some ≡ page_count_lem self.old.base.config)) }

@@ -42,6 +42,7 @@ fn start(per: u32, group: GroupNo) -> u64
 
 // The page of a group is read where there are so many volumes with so many groups each, or no byte from a volume that
 // is too small for it.
+#[tactic(auto, using(crate::proofs::Basics::few_quotient))]
 fn read_place<P: Plant>(
     plant: &mut P,
     by: MemberId,
@@ -67,6 +68,7 @@ fn read_place<P: Plant>(
 
 // The page of a group is written where there are so many volumes with so many groups each, or no byte to a volume that
 // is too small for it.
+#[tactic(auto, using(crate::proofs::Basics::few_quotient))]
 fn write_place<P: Plant>(
     plant: &mut P,
     by: MemberId,

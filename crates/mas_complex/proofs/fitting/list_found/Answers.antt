@@ -1,4 +1,4 @@
-use Rattle.mas_complex.proofs.Answering.{◌≡◌, ◌∙◌, ◌<◌, ℕ, ◌+◌, ◌==◌, ◌||◌, Bool, List, [], ◌∷◌, ◌++◌, if◌then◌else◌, length, take, drop, get_or, ap, ap₂, arith, drop_more, bytes_of, level, level_in, first_page, found_numbers, is_found_at, numbers_from, true, first_is, numbers_more, page_with}
+use Rattle.mas_complex.proofs.Answering.{◌≡◌, ◌∙◌, ◌<◌, ℕ, ◌+◌, ◌==◌, ◌||◌, Bool, List, [], ◌∷◌, ◌++◌, if◌then◌else◌, length, take, drop, get_or, ap, ap₂, arith, drop_more, bytes_of, level, level_in, first_page, found_numbers, is_found_at, numbers_from, first_is, numbers_more, page_with}
 use Rattle.mas_complex.proofs.fitting.list_found.Goals as goal
 
 pub loop-page-preserved : goal.loop-page-preserved

@@ -3,5 +3,4 @@ use Rattle.mas_complex.proofs.renewals.end_all.Goals as goal
 
 pub loop-renewal-preserved : goal.loop-renewal-preserved
 loop-renewal-preserved c =
-    let inside : c.loop-renewal.renewal-index < length c.loop-renewal.renewals = omega arith in
-    change_here c.loop-renewal.renewals c.loop-renewal.renewal-index inside (λ (r : Renewal). ended_at c.args.now r) _ _ _ c.loop-renewal.invariant c.end.ensures
+    change_here c.loop-renewal.renewals c.loop-renewal.renewal-index (omega arith) (λ (r : Renewal). ended_at c.args.now r) _ _ _ c.loop-renewal.invariant c.end.ensures

@@ -1,5 +1,4 @@
-use Rattle.mas_complex.proofs.Answering.{refl, subst, sym, ◌∙◌, ap, List, Option, ◌-◌, ◌^◌, None, Batch, Entry, Flying, entries_reserved, parts_of, begins, facts_at, view_of}
-use Rattle.mas_complex.proofs.Names.{IsSome}
+use Rattle.mas_complex.proofs.Answering.{refl, subst, sym, ◌∙◌, ap, List, Option, ◌-◌, ◌^◌, None, Batch, Entry, Flying, entries_reserved, parts_of, begins, facts_at, view_of, IsSome}
 use Rattle.mas_complex.proofs.complex.Complex.begin.Goals as goal
 
 pub invariant_of-self : goal.invariant_of-self

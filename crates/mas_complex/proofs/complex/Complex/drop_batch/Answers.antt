@@ -7,7 +7,6 @@ invariant_of-self g c =
     let b = c.in-Some.batch in
     let k = fated Dropped c.now-last.result b in
     let f = facts_at s (Some b) (sym c.take.ensures.value ∙ c.in-Some.is) in
-    let before = each (λ d. (half_of s d).alive ≡ true → place_of s d ≡ Before) c.requires.first c.requires.second in
     ends g.P.Plant g.C.Steady g.C.Copying (parts_of s) (view_of s) b f k (inr refl) refl refl c.now-last.ensures c.end_last.new.journal.batches c.take.new.self Before Before s.level c.end_last.ensures c.take.ensures.after
     (λ told. ∥∥₁_map (f.kept told) (λ keeps. same_keeps (setting_of s) (past_of s) b k s.level (copies_of s) (view_of s) keeps refl refl refl c.now-last.ensures
-    (λ d. pick d Before Before) (λ d ckpt is. pick_same d Before) (inl refl) before))
+    (λ d. pick d Before Before) (λ d ckpt is. pick_same d Before) (inl refl) (each (λ d. (half_of s d).alive ≡ true → place_of s d ≡ Before) c.requires.first c.requires.second)))

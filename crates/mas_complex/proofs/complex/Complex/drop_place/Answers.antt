@@ -1,30 +1,10 @@
-use Rattle.mas_complex.proofs.Answering.{true, List, None, subst, sym, false, Batch, AreSettled, AreFew, Bool, ap, ◌∙◌, ◌≡◌, past_batches, few_at_end, settled_without_last, few_unplaced}
-use Rattle.mas_complex.proofs.complex.Complex.drop_place.Given.{Over}
-use Rattle.mas_complex.proofs.complex.Complex.drop_place.Goals.{After-drop_last}
+use Rattle.mas_complex.proofs.Answering.{Batch, Bool, List, None, Option, ap, false, few_at_end, few_unplaced, no, parts_of, past_batches, placed_as, refl, settled_without_last, subst, sym, true, view_of, without_last, IsSome, FactsOf}
 use Rattle.mas_complex.proofs.complex.Complex.drop_place.Goals as goal
 
--- the batches that have their fates are as before
-still : (g : Over) (c : After-drop_last g) → c.drop_last.new.journal.batches ≡ past_batches c.args.self.now.placed c.args.self.now.journal.batches
-still g c = c.drop_last.ensures ∙ ap (λ (z : Bool). past_batches z c.args.self.now.journal.batches) (sym c.requires.placed)
-
-pub invariant_of-self-clause-kept : goal.invariant_of-self-clause-kept
-invariant_of-self-clause-kept g c = rw (still g (goal.at.invariant_of-self-clause-kept g c).After-drop_last) c.args.self.now.kept
-
-pub invariant_of-self-clause-replied : goal.invariant_of-self-clause-replied
-invariant_of-self-clause-replied g c = rw (still g (goal.at.invariant_of-self-clause-replied g c).After-drop_last) c.args.self.now.replied
-
-pub invariant_of-self-clause-paper : goal.invariant_of-self-clause-paper
-invariant_of-self-clause-paper g c = rw (still g (goal.at.invariant_of-self-clause-paper g c).After-drop_last) c.args.self.now.paper
-
-pub invariant_of-self-clause-settled : goal.invariant_of-self-clause-settled
-invariant_of-self-clause-settled g c =
+pub invariant_of-self : goal.invariant_of-self
+invariant_of-self g c =
     let s = c.args.self.now in
-    subst (λ (l : List Batch). AreSettled l (g.P.Plant.view s.plant).now) (sym c.drop_last.ensures) (settled_without_last s.journal.batches (g.P.Plant.view s.plant).now s.settled)
-
-pub invariant_of-self-clause-few : goal.invariant_of-self-clause-few
-invariant_of-self-clause-few g c = rw c.drop_last.ensures (few_at_end true None c.args.self.now.journal.batches c.args.self.now.few)
-
-pub invariant_of-self-clause-counted : goal.invariant_of-self-clause-counted
-invariant_of-self-clause-counted g c =
-    let s = c.args.self.now in
-    subst (λ (l : List Batch). AreFew false l) (sym c.drop_last.ensures) (few_unplaced s.placed s.journal.batches c.requires.placed s.place s.counted)
+    let js = s.journal.batches in
+    subst (λ (l : List Batch). FactsOf g.P.Plant g.C.Steady g.C.Copying (record (parts_of s) { batches = l; placed = false }) (view_of s)) (sym c.drop_last.ensures)
+    (placed_as s (without_last js) false (ap (λ (z : Bool). past_batches z js) (sym c.requires.placed)) (λ some. absurd (no false (subst (λ (o : Option _). IsSome o) c.requires.none some) refl)) (λ some. absurd (no false (subst (λ (o : Option _). IsSome o) c.requires.unreserved some) refl))
+    ∣ tt ∣₁ (settled_without_last js (view_of s).now s.settled) (few_at_end true None js s.few) (few_unplaced s.placed js c.requires.placed s.place s.counted))

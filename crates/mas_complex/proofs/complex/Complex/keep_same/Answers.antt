@@ -1,4 +1,4 @@
-use Rattle.mas_complex.proofs.Answering.{refl, subst, sym, ◌≡◌, ◌∙◌, ap, List, Option, ◌++◌, true, ∥∥₁_map₂, Batch, Before, Entry, Kept, Flying, ◌-◌, ◌^◌, kept_all, entries_reserved, run, AreToldAlike, None, inl, inr, StandFor, parts_of, pick, ℕ, stand_alike, same_keeps, each, copies_of, facts_at, begins, ends, half_of, kept_past, past_of, place_of, setting_of, view_of, one_kept}
+use Rattle.mas_complex.proofs.Answering.{refl, subst, sym, ◌≡◌, ◌∙◌, ap, List, ◌++◌, true, ∥∥₁_map₂, Batch, Before, Entry, Kept, Flying, ◌-◌, ◌^◌, kept_all, entries_reserved, run, AreToldAlike, None, inl, inr, StandFor, parts_of, ℕ, stand_alike, same_keeps, each, copies_of, facts_at, begins, ends, half_of, kept_past, past_of, place_of, setting_of, view_of, one_kept}
 use Rattle.mas_complex.proofs.complex.Complex.keep_same.Goals as goal
 
 pub invariant_of-self : goal.invariant_of-self

@@ -1,21 +1,10 @@
-use Rattle.mas_complex.proofs.Answering.{◌≡◌, ◌++◌, Result, Ok, Err, IfOk, refl, subst, sym, Coded-set, coded_ℕ, NoMore, bytes_of, Place, pick, WasSeen, Look, Lost, Unread, Pages, LookNo, disk_now, kept_all, entries_in, run, Elsewhere, HasNext, IsPlaceSeen, List, false, Page, Entry, StandFor, elsewhere_of, on_one, Call, copy_here, copy_there, facts_on, frame_of, here, keeps_same, lost_acted, new, old, place_is, place_was, there, look_next, look_stands, seen_fits, KeepsAt, copies_of, kept_past, laws_of, past_of, setting_of, ReadsOne, le_prop, look_at, meanwhile_end, passes_of, quiet, same_bytes, ∥∥₁_map, ∥∥₁_elim, pair_one, less_reads}
+use Rattle.mas_complex.proofs.Answering.{◌≡◌, ◌++◌, Result, Ok, Err, IfOk, refl, subst, sym, Coded-set, coded_ℕ, NoMore, bytes_of, Place, pick, WasSeen, Look, Lost, Unread, Pages, LookNo, disk_now, kept_all, entries_in, run, Elsewhere, HasNext, IsPlaceSeen, List, false, Page, Entry, StandFor, elsewhere_of, Call, copy_here, copy_there, facts_on, here, keeps_same, lost_acted, new, old, place_is, place_was, there, look_next, look_stands, seen_fits, KeepsAt, copies_of, kept_past, laws_of, past_of, setting_of, ReadsOne, le_prop, look_at, meanwhile_end, passes_of, quiet, ∥∥₁_map, ∥∥₁_elim, pair_one, less_reads, call_of}
 use Rattle.mas_complex.proofs.complex.Complex.look_on.Given.{Over}
 use Rattle.mas_complex.proofs.complex.Complex.look_on.Goals.{After-set_place}
 use Rattle.mas_complex.proofs.complex.Complex.look_on.Goals as goal
 
 abbrev call : (g : Over) → After-set_place g → Call g.P.Plant g.C.Steady g.C.Copying
-call g c = record {
-  laws = laws_of g.world g.met.P.Plant g.met.C.Steady g.met.C.Copying;
-  was = c.args.self.now;
-  dev = c.args.dev;
-  ckpt = c.requires.ckpt;
-  pair = c.look-done.new.self;
-  first = c.set_place.new.first;
-  second = c.set_place.new.second;
-  plant = c.look-done.new.plant;
-  same = c.look-done.ensures.other;
-  at = c.set_place.ensures.other;
-}
+call g c = call_of (laws_of g.world g.met.P.Plant g.met.C.Steady g.met.C.Copying) c.args.self.now c.args.dev c.requires.ckpt c.look-done.new.self c.set_place.new.first c.set_place.new.second c.look-done.new.plant c.look-done.ensures.other c.set_place.ensures.other
 
 after : (g : Over) (c : After-set_place g) → IsPlaceSeen c.look-done.result c.args.self.now.level (place_is (call g c))
 after g c = subst (λ (p : Place). IsPlaceSeen c.look-done.result c.args.self.now.level p) (sym c.set_place.ensures.place) c.place_seen-place.ensures
@@ -54,9 +43,6 @@ invariant_of-self g c =
     (g.C.Steady.stays_fit (here x).copy (old x) (new x) e.acted.goes (x.was.ready x.dev x.ckpt (e.acted.alive now))))
     (lost_acted x c.args.by.0 _ e.acted)
 
-pub returns-clause-frame : goal.returns-clause-frame
-returns-clause-frame g c = frame_of (call g (goal.at.returns-clause-frame g c).After-set_place)
-
 pub returns-clause-next : goal.returns-clause-next
 returns-clause-next g c =
     by_result c.look-done.result refl where
@@ -72,13 +58,7 @@ returns-clause-next g c =
           (look_next (setting_of s) k.pages.was k.pages.coming (copy_there x) (disk_now (new x) x.dev) (x.laws.reads (there x) (place_is x)) (reads g w told k) c.look-done.result (found g w told) s.level (kept_all (past_of s)) (entries_in s.current) k.pages.stands k.pages.comes (after g w) pages is opened) in
           (∥∥₁_elim (s.kept told) (Coded-set coded_ℕ _ _) (λ k. (next k).0.at_level), ∥∥₁_map (s.kept told) (λ k. subst (λ (K : List Entry). StandFor (run s.base (K ++ entries_in s.current)) (bytes_of pages)) (kept_past s) (next k).0.queue), ∥∥₁_elim (s.kept told) le_prop (λ k. (next k).1))
 
-pub returns-clause-bytes : goal.returns-clause-bytes
-returns-clause-bytes g c told = same_bytes (g.P.Plant.view c.args.self.now.plant) (g.P.Plant.view c.look-done.new.plant) c.args.dev c.requires.ckpt (c.look-done.ensures.during told)
-
 pub returns-clause-leaves : goal.returns-clause-leaves
 returns-clause-leaves g c =
     let x = call g (goal.at.returns-clause-leaves g c).After-set_place in
     pair_one c.args.by.0 x.was.pair x.pair (old x) (new x) _ x.dev x.ckpt x.same c.look-done.ensures.acted (elsewhere g (goal.at.returns-clause-leaves g c).After-set_place)
-
-pub returns-clause-same : goal.returns-clause-same
-returns-clause-same g c = c.look-done.ensures.err

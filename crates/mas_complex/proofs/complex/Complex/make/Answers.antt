@@ -1,4 +1,4 @@
-use Rattle.mas_complex.proofs.Answering.{None, List, subst, sym, Before, setting, copy_of, Disk as DiskPart, disk_now, Spool, AreSettled, Batch, ap, false, true, ◌≡◌, pick, is_open, BeginsWith, nobody_later, stays_true, first_reads, leaves_base, make_keeps, none_yet, placed_copy, makes_paper, owned_none, each, pick_same, laws_of, ∥∥₁_map}
+use Rattle.mas_complex.proofs.Answering.{None, sym, Before, setting, copy_of, Disk as DiskPart, disk_now, Spool, ap, false, true, ◌≡◌, pick, is_open, BeginsWith, nobody_later, stays_true, first_reads, leaves_base, make_keeps, none_yet, placed_copy, makes_paper, each, pick_same, laws_of, ∥∥₁_map}
 use Rattle.mas_complex.proofs.complex.Complex.make.Goals as goal
 
 pub invariant_of-result-clause-kept : goal.invariant_of-result-clause-kept
@@ -22,23 +22,6 @@ returns-clause-fresh g c told =
     (λ d ckpt. first_reads (setting C.reads s.base v.now) begins.pages None d (copy_of C.rests C.holds (pick d s.pair.first s.pair.second) Before) v later ((laws_of g.world g.met.P.Plant g.met.C.Steady g.met.C.Copying).reads (pick d s.pair.first s.pair.second) Before)
     (ap is_open (none_yet d)) c.moment_of-since.ensures.most goes (begins.at d ckpt) (each (λ d. (pick d s.pair.first s.pair.second).alive ≡ false → v.lost (DiskPart d) ≡ true) c.requires.lost1 c.requires.lost2 d ckpt)))
 
-pub invariant_of-result-clause-replied : goal.invariant_of-result-clause-replied
-invariant_of-result-clause-replied g c told = rw (c.new-2.ensures) (∣ tt ∣₁)
-
 pub invariant_of-result-clause-paper : goal.invariant_of-result-clause-paper
 invariant_of-result-clause-paper g c told sound =
     rw (c.new-2.ensures) (∣ makes_paper c.args.base c.moment_of-since.result c.new_book_of-book.result (g.P.Plant.view c.args.plant) c.moment_of-since.ensures.now ∣₁)
-
-pub invariant_of-result-clause-settled : goal.invariant_of-result-clause-settled
-invariant_of-result-clause-settled g c = subst (λ (l : List Batch). AreSettled l (g.P.Plant.view c.args.plant).now) (sym c.new-2.ensures) tt
-
-pub invariant_of-result-clause-owned : goal.invariant_of-result-clause-owned
-invariant_of-result-clause-owned g c = owned_none c.new_book_of-book.result
-
-pub invariant_of-result-clause-lost : goal.invariant_of-result-clause-lost
-invariant_of-result-clause-lost g c d ckpt dead known = each (λ d. (pick d c.args.pair.first c.args.pair.second).alive ≡ false → (g.P.Plant.view c.args.plant).lost (DiskPart d) ≡ true) c.requires.lost1 c.requires.lost2 d ckpt dead
-
-pub invariant_of-result-clause-ready : goal.invariant_of-result-clause-ready
-invariant_of-result-clause-ready g c d ckpt is =
-    g.met.C.Steady.ready_fit (pick d c.args.pair.first c.args.pair.second).copy (g.P.Plant.view c.args.plant)
-    (each (λ d. (pick d c.args.pair.first c.args.pair.second).alive ≡ true → g.C.Copying.ready (pick d c.args.pair.first c.args.pair.second).copy (g.P.Plant.view c.args.plant)) c.requires.ready1 c.requires.ready2 d ckpt is)

@@ -1,4 +1,4 @@
-use Rattle.mas_complex.proofs.Answering.{◌≡◌, ◌⊎◌, ◌+◌, ℕ, List, Option, ap, ◌∙◌, arith, subst, sym, get_or-set_same, ∥∥₁_map₂, ∥∥₁_elim, ∥∥₁_prop, Entry, Act, counts_of, printed_by, None, MayPrint, entries_in, stopped_up, prints_on_paper, passes_of, somebody_is, left_after_print, IsOwned, prints, beside_all, kept_past, laws_of, left_with, past_of, view_of}
+use Rattle.mas_complex.proofs.Answering.{◌≡◌, ◌⊎◌, List, Option, arith, subst, sym, ∥∥₁_map₂, ∥∥₁_elim, ∥∥₁_prop, Entry, counts_of, None, MayPrint, entries_in, stopped_up, prints_on_paper, passes_of, somebody_is, left_after_print, IsOwned, prints, beside_all, kept_past, laws_of, left_with, past_of, view_of}
 use Rattle.mas_complex.proofs.complex.Complex.print.Goals as goal
 
 pub invariant_of-self : goal.invariant_of-self
@@ -14,11 +14,4 @@ invariant_of-self g c =
     (prints_on_paper s.base s.since (past_of s) s.current s.printed s.book (view_of s) new k.started k.settled k.begun (passes_of (view_of s) new acts.goes) on acts.goes sound c.args.by (somebody_is c.args.by c.requires.member.0)
     (omega (arith, c.count_line.ensures.whole, c.requires.few)) c.requires.up c.requires.other c.args.line.now (subst (λ (K : List Entry). MayPrint s.base K (entries_in s.current) c.args.by (counts_of s.printed c.args.by) c.args.line.now) (sym (kept_past s)) may) done acts.time acts.last acts.halted (c.print-done.ensures.content told) (stopped_up s.book c.args.by c.requires.member)))))
     (subst (IsOwned s.current) (sym e.book) (prints s.book c.args.by s.current c.requires.member s.owned done).owned)
-    (subst (λ (r : Option (List Entry)). (r ≡ None) ⊎ (r ≡ s.reserved)) (sym e.reserved) (left_after_print c.args.by done s.reserved))
-
-pub returns-clause-counted : goal.returns-clause-counted
-returns-clause-counted g c is =
-    let was = c.args.self.now.printed in
-    let by = c.args.by in
-    ap (λ (l : List ℕ). counts_of l by) (c.count_line.ensures.counted ∙ ap (λ (r : Act). printed_by by r was) is)
-    ∙ get_or-set_same was by.0 (counts_of was by + 1) 0 (omega (arith, c.count_line.ensures.whole, c.requires.few))
+    (left_after_print c.args.by done s.reserved _ e.reserved)

@@ -1,27 +1,10 @@
-use Rattle.mas_complex.proofs.Answering.{◌≡◌, true, false, IsErrOf, Some, subst, sym, Coded-set, coded_list, coded_ℕ, bytes_of, level, AllRead, Place, Before, Put, Touched, other, BothLost, disk_now, held_then, IsNear, Elsewhere, entries_in, IsPlaceAfter, test_cases, List, ◌++◌, Entry, StandFor, run, no, elsewhere_of, elsewhere_is, Call, at_near, copy_here, copy_near, copy_there, facts_on, frame_of, here, keeps_on, lost_acted, near_dev, near_it, new, old, place_is, rests_here, there, dead_of, comes_near, some_coming, is_higher, one_level_more, kept_past, laws_of, setting_of, IfSome, KeepsAt, OnOk, all_read, disk_at, idle, keeps_same, near_place, no_other, passes_of, told_then, touched_by, touches, with_coming, ∥∥₁_map, ∥∥₁_elim, ∥∥₁_prop, ∥∥₁_map₂, ⊎_elim, Option, ℕ}
+use Rattle.mas_complex.proofs.Answering.{◌≡◌, true, Some, subst, sym, Coded-set, coded_list, coded_ℕ, bytes_of, level, AllRead, Place, Before, Put, Touched, other, disk_now, held_then, IsNear, Elsewhere, entries_in, IsPlaceAfter, test_cases, List, ◌++◌, Entry, StandFor, run, no, elsewhere_of, elsewhere_is, Call, at_near, copy_here, copy_near, copy_there, facts_on, here, keeps_on, lost_acted, near_dev, near_it, new, old, rests_here, there, dead_of, comes_near, is_higher, kept_past, laws_of, setting_of, IfSome, KeepsAt, OnOk, all_read, disk_at, idle, keeps_same, near_place, no_other, passes_of, told_then, touched_by, touches, with_coming, ∥∥₁_map, ∥∥₁_elim, ∥∥₁_prop, ∥∥₁_map₂, ⊎_elim, Option, ℕ, call_of, ap, arith, length}
 use Rattle.mas_complex.proofs.complex.Complex.put_on.Given.{Over}
 use Rattle.mas_complex.proofs.complex.Complex.put_on.Goals.{After-set_place}
 use Rattle.mas_complex.proofs.complex.Complex.put_on.Goals as goal
 
 abbrev call : (g : Over) → After-set_place g → Call g.P.Plant g.C.Steady g.C.Copying
-call g c = record {
-  laws = laws_of g.world g.met.P.Plant g.met.C.Steady g.met.C.Copying;
-  was = c.args.self.now;
-  dev = c.args.dev;
-  ckpt = c.requires.ckpt;
-  pair = c.put-done.new.self;
-  first = c.set_place.new.first;
-  second = c.set_place.new.second;
-  plant = c.put-done.new.plant;
-  same = c.put-done.ensures.other;
-  at = c.set_place.ensures.other;
-}
-
-after : (g : Over) (c : After-set_place g) → IsPlaceAfter c.put-done.result Put (place_is (call g c))
-after g c = subst (λ (p : Place). IsPlaceAfter c.put-done.result Put p) (sym c.set_place.ensures.place) c.place_after-place.ensures
-
-dead : (g : Over) (c : After-set_place g) → IsErrOf c.put-done.result BothLost → (there (call g c)).alive ≡ false
-dead g c both = dead_of c.args.dev c.requires.ckpt c.put-done.new.self.first c.put-done.new.self.second (c.put-done.ensures.both both)
+call g c = call_of (laws_of g.world g.met.P.Plant g.met.C.Steady g.met.C.Copying) c.args.self.now c.args.dev c.requires.ckpt c.put-done.new.self c.set_place.new.first c.set_place.new.second c.put-done.new.plant c.put-done.ensures.other c.set_place.ensures.other
 
 elsewhere : (g : Over) (c : After-set_place g) → g.P.Plant.tells → Elsewhere c.args.dev (old (call g c)) (new (call g c))
 elsewhere g c told =
@@ -52,7 +35,7 @@ invariant_of-self g c =
     let m = (e.during told k.pages.was rests).here in
     let other = λ (is : (near_it x).alive ≡ true). no_other S k.pages.was k.pages.coming (copy_near x) (near_dev x) (old x) (at_near x k) (C.behind o) (λ was next d r. x.laws.holds_behind o was next d r) (λ was d r. x.laws.rests_now o was d r) pages is (c.requires.same told is) in
     let raised : (here x).alive ≡ true → ((near_it x).alive ≡ true → near_place x ≡ Before) → IsNear k.first_level k.first_order pages
-    = λ is before. comes_near k.first_level k.first_order k.pages.was pages k.pages.near (c.requires.orders told is before k.pages.was (x.laws.rests_now (here x).copy k.pages.was (disk_now (old x) x.dev) (rests is))) (one_level_more (level k.pages.was) (level pages) x.was.level k.pages.stands.at_level (c.requires.level told)) in
+    = λ is before. comes_near k.first_level k.first_order k.pages.was pages k.pages.near (c.requires.orders told is before k.pages.was (x.laws.rests_now (here x).copy k.pages.was (disk_now (old x) x.dev) (rests is))) (omega (arith, k.pages.stands.at_level, c.requires.level told)) in
     test_cases (here x).alive _
     (λ is.
     keeps_on x passes (elsewhere g c told) k (record {
@@ -60,21 +43,19 @@ invariant_of-self g c =
       coming = Some pages;
       stands = k.pages.stands;
       comes = record { at_level = c.requires.level told; queue = subst (λ (K : List Entry). StandFor (run x.was.base (K ++ entries_in x.was.current)) pages) (sym (kept_past x.was)) q };
-      none = some_coming (entries_in x.was.current) (Some pages) (c.requires.some told);
+      none = λ none. let e : length (entries_in x.was.current) ≡ 0 = ap length none in absurd (omega (arith, e, c.requires.some told));
       near = k.pages.near;
       comes_near = test_cases (near_it x).alive (IsNear k.first_level k.first_order pages)
           (λ near. ⊎_elim (λ before. raised is (λ _. before)) (λ same. subst (λ (n : Option (List ℕ)). IfSome n (IsNear k.first_level k.first_order)) same k.pages.comes_near) (other near))
           (λ dead. raised is (λ near. absurd (no (near_it x).alive near dead)));
     })
     (with_coming S k.pages.was k.pages.coming (copy_near x) (near_dev x) (old x) (at_near x k) pages other)
-    (touches S k.pages.was (Some pages) x.dev (copy_there x) (old x) (new x) k.pages.coming (copy_here x) (k.at x.dev x.ckpt) passes.later e.acted.alive c.put-done.result Put (AllRead C.reads k.pages.was) (λ _ d all. all_read S k.pages.was (Some pages) d all) m (e.gone told) (dead g c) (after g c) (holds g c told k))
+    (touches S k.pages.was (Some pages) x.dev (copy_there x) (old x) (new x) k.pages.coming (copy_here x) (k.at x.dev x.ckpt) passes.later e.acted.alive c.put-done.result Put (AllRead C.reads k.pages.was) (λ _ d all. all_read S k.pages.was (Some pages) d all) m (e.gone told)
+    (λ both. dead_of x.dev x.ckpt x.pair.first x.pair.second (e.both both)) (subst (λ (p : Place). IsPlaceAfter c.put-done.result Put p) (sym c.set_place.ensures.place) c.place_after-place.ensures) (holds g c told k))
     (λ d ckpt _. ((k.later x.dev x.ckpt is).0, later is)))
     (λ dead. keeps_same x passes (elsewhere g c told) e.acted.alive k
     (idle S k.pages.was k.pages.coming x.dev (copy_there x) (old x) (new x) k.pages.coming (copy_here x) (k.at x.dev x.ckpt) passes.later e.acted.alive dead (λ t from le. (touched_by (AllRead C.reads k.pages.was) (here x).alive (disk_now (old x) x.dev) (disk_at (new x) t x.dev) (m t from le)).1 dead))))))
     (λ now. x.laws.ready_fit (there x).copy (new x) (e.ready (e.acted.alive now))) (lost_acted x c.args.by.0 _ e.acted)
-
-pub returns-clause-frame : goal.returns-clause-frame
-returns-clause-frame g c = frame_of (call g (goal.at.returns-clause-frame g c).After-set_place)
 
 pub returns-clause-elsewhere : goal.returns-clause-elsewhere
 returns-clause-elsewhere g c = elsewhere g (goal.at.returns-clause-elsewhere g c).After-set_place

@@ -1,4 +1,4 @@
-use Rattle.mas_complex.proofs.Answering.{Disk as DiskPart, ◌≡◌, true, arith, subst, sym, NoMore, disk_now, copy_of, false, pick, IsGone, disk_at, on_both, papers_both, each, pair_lost, read_bytes, copies_of, facts, half_of, laws_of, paper_after, past_of, place_of, ready_of, setting_of, view_of, Throughout, more_at, ∥∥₁_map, Went, passes_of, quiet, copies_went}
+use Rattle.mas_complex.proofs.Answering.{Disk as DiskPart, ◌≡◌, true, arith, subst, sym, NoMore, disk_now, copy_of, false, pick, IsGone, disk_at, each, pair_lost, copies_of, facts, half_of, laws_of, paper_after, past_of, place_of, ready_of, setting_of, view_of, Throughout, more_at, ∥∥₁_map, Went, passes_of, quiet, copies_went}
 use Rattle.mas_complex.proofs.complex.Complex.read_page.Goals as goal
 
 pub invariant_of-self : goal.invariant_of-self
@@ -22,22 +22,10 @@ invariant_of-self g c =
     (each (λ d. IsGone d (half_of s d).alive (pick d p.first p.second).alive new) (e.gone1 told) (e.gone2 told) d ckpt)
     (λ is _ _. more_at (setting_of s) k.pages.was k.pages.coming (copies_of s d) (disk_now old d) (disk_now new d) (laws.rests_stays (half_of s d).copy) (laws.holds_stays (half_of s d).copy) (less new.now m.goes.later (omega arith)) (place_of s d) ((k.at d ckpt).at is))))
     (λ d ckpt is. k.later d ckpt (alive d ckpt is))))
-    (paper_after s new e.acted.goes (λ told. papers_both _ _ old new (e.during told)))
+    (paper_after s new e.acted.goes (λ told t from le. ((e.during told).sides t from le).paper))
     (λ d ckpt is. subst (λ y. g.C.Steady.fits y new ≡ true) (sym (same d ckpt)) (g.C.Steady.stays_fit (half_of s d).copy old new e.acted.goes (s.ready d ckpt (alive d ckpt is))))
     (λ d ckpt. pair_lost d (half_of s d).alive (pick d p.first p.second).alive old new e.acted.goes
     (each (λ d. (half_of s d).alive ≡ true → (pick d p.first p.second).alive ≡ false → new.lost (DiskPart d) ≡ true) e.acted.is_lost1 e.acted.is_lost2 d ckpt) (s.lost d ckpt))
-
-pub returns-clause-bytes : goal.returns-clause-bytes
-returns-clause-bytes g c told = read_bytes (g.P.Plant.view c.args.self.now.plant) (g.P.Plant.view c.read_page.new.plant) (c.read_page.ensures.during told)
-
-pub returns-clause-apart : goal.returns-clause-apart
-returns-clause-apart g c told = on_both _ _ (g.P.Plant.view c.args.self.now.plant) (g.P.Plant.view c.read_page.new.plant) (c.read_page.ensures.during told)
-
-pub returns-clause-throughout : goal.returns-clause-throughout
-returns-clause-throughout g c told = (c.read_page.ensures.during told).others
-
-pub returns-clause-papers : goal.returns-clause-papers
-returns-clause-papers g c told = papers_both _ _ (g.P.Plant.view c.args.self.now.plant) (g.P.Plant.view c.read_page.new.plant) (c.read_page.ensures.during told)
 
 pub read_page-requires-clause-ready : goal.read_page-requires-clause-ready
 read_page-requires-clause-ready g c = ready_of c.args.self.now (laws_of g.world g.met.P.Plant g.met.C.Steady g.met.C.Copying)

@@ -1,5 +1,4 @@
-use Rattle.mas_complex.proofs.Answering.{◌≡◌, ◌≤◌, ◌+◌, ◌*◌, ◌||◌, ◌∙◌, ⊎_elim, ℕ, List, length, Option, true, false, Some, IfSome, refl, sym, subst, ap, rules, ∥∥₁_map, Ckpt1, Ckpt2, disk_now, Goes, Rose, Disk, Page, Queue, page_count, Place, IsAtLevel, OneSeen, IsOneSeen, ReadsSeen, bytes_of, level, goes_on, next_order, order_first, orders_most, err_from_is_err_and, pair_state, parts_of, looked, sought, if◌then◌else◌, Before, Dev, Entry, StandFor, run, no, fault_earlier, fault_later, left_why, rose_earlier, if_err, left_some, none_seen, as_many_fated, some_first, some_second, stands_of, found_many, seen_alive, look_halted, not_brought, was_halted, each, copies_of, half_of, kept_past, past_of, place_of, setting_of, view_of, pair_then, pair_seen, pair_brought, OnPair, Complex, View, WasUnfit, ◌⊎◌, pick, Half, IsUnfit, Looked, None, Sought}
-use Rattle.mas_types.specs.Fit.{IsConfig}
+use Rattle.mas_complex.proofs.Answering.{◌≡◌, ◌≤◌, ◌+◌, ◌*◌, ◌||◌, ◌∙◌, ⊎_elim, ℕ, List, length, Option, true, false, Some, IfSome, refl, sym, subst, ap, rules, ∥∥₁_map, Ckpt1, Ckpt2, disk_now, Goes, Rose, Disk, Page, Queue, page_count, IsOneSeen, ReadsSeen, bytes_of, goes_on, next_order, order_first, orders_most, err_from_is_err_and, pair_state, parts_of, looked, sought, Before, Dev, Entry, StandFor, run, no, fault_earlier, fault_later, left_why, rose_earlier, if_err, left_some, as_many_fated, stands_of, found_many, seen_alive, each, copies_of, half_of, kept_past, past_of, place_of, setting_of, view_of, pair_then, OnPair, Complex, View, WasUnfit, ◌⊎◌, Half, IsUnfit, Looked, None, Sought, Err, IsErrOf, PairState, Result, pair_error, PairNo, look_left, IsAtLevel, Place, level, pair_stopped, Halted as PairHalted, BothLost as PairBothLost, recover_no, recover_stopped, RecoverNo, RecoverBothLost, RecoverHalted}
 use Rattle.mas_complex.proofs.complex.Complex.recover.Given.{Over}
 use Rattle.mas_complex.proofs.complex.Complex.recover.Goals.{After-choose_any}
 use Rattle.mas_complex.proofs.complex.Complex.recover.Goals as goal
@@ -74,10 +73,13 @@ returns-in_default-clause-leaves g c = chose g (goal.at.returns-in_default-claus
 pub returns-then-not-may_follow-clause-leaves : goal.returns-then-not-may_follow-clause-leaves
 returns-then-not-may_follow-clause-leaves g c = chose g (goal.at.returns-then-not-may_follow-clause-leaves g c).After-choose_any
 
+-- a copy that was brought up in an error
+brought : (g : Over) (by : ℕ) (x y : PairState) (r : Result (List Page) RecoverNo) (why : PairNo) → (no : RecoverNo) × (r ≡ Err no) × (no ≡ recover_no why) → OnPair g.P.Plant.tells by (pair_stopped {T = Unit {0}} (Err why)) x y → OnPair g.P.Plant.tells by (recover_stopped r) x y
+brought g by x y r why p = pair_error {B = Unit {0}} (λ r q. OnPair g.P.Plant.tells by (pair_stopped q) x y → OnPair g.P.Plant.tells by (recover_stopped r) x y) (λ l. l) (λ l. l) r why p
+
 pub returns-in_err-bring-clause-leaves : goal.returns-in_err-bring-clause-leaves
 returns-in_err-bring-clause-leaves g c =
-    let p = err_from_is_err_and c.from_residual-in_err-bring.result c.from_residual-in_err-bring.ensures.1 in
-    pair_then (chose g (goal.at.returns-in_err-bring-clause-leaves g c).After-choose_any) (pair_brought (Unit {0}) c.in_err-bring.field-0.0 p.1 p.2 c.in_err-bring.ensures.leaves)
+    pair_then (chose g (goal.at.returns-in_err-bring-clause-leaves g c).After-choose_any) (brought g c.args.by.0 _ _ c.from_residual-in_err-bring.result _ (err_from_is_err_and c.from_residual-in_err-bring.result c.from_residual-in_err-bring.ensures.1) c.in_err-bring.ensures.leaves)
 
 pub returns-clause-leaves : goal.returns-clause-leaves
 returns-clause-leaves g c =
@@ -86,13 +88,10 @@ returns-clause-leaves g c =
 
 pub returns-in_err-second-clause-leaves : goal.returns-in_err-second-clause-leaves
 returns-in_err-second-clause-leaves g c =
-    let p = err_from_is_err_and c.from_residual-in_err-second.result c.from_residual-in_err-second.ensures.1 in
-    pair_then c.in_ok-first.ensures.leaves (pair_seen (Option (List Page)) c.in_err-second.field-0.0 p.1 p.2 c.in_err-second.ensures.leaves)
+    pair_then c.in_ok-first.ensures.leaves (look_left (Option (List Page)) c.from_residual-in_err-second.result _ (err_from_is_err_and c.from_residual-in_err-second.result c.from_residual-in_err-second.ensures.1) c.in_err-second.ensures.leaves)
 
 pub returns-in_err-first-clause-leaves : goal.returns-in_err-first-clause-leaves
-returns-in_err-first-clause-leaves g c =
-    let p = err_from_is_err_and c.from_residual.result c.from_residual.ensures.1 in
-    pair_seen (Option (List Page)) c.in_err-first.field-0.0 p.1 p.2 c.in_err-first.ensures.leaves
+returns-in_err-first-clause-leaves g c = look_left (Option (List Page)) c.from_residual.result _ (err_from_is_err_and c.from_residual.result c.from_residual.ensures.1) c.in_err-first.ensures.leaves
 
 pub returns-clause-stands : goal.returns-clause-stands
 returns-clause-stands g c told =
@@ -107,21 +106,11 @@ returns-clause-stands g c told =
       read d reads = subst (λ p. g.C.Copying.reads (disk_now (g.P.Plant.view p.plant) d).bytes ≡ Some (bytes_of c.in-Some.found)) (sym c.give_fate.ensures.frame)
           (subst (λ (ps : List Page). g.C.Copying.reads (disk_now (g.P.Plant.view c.bring.new.self.plant) d).bytes ≡ Some (bytes_of ps)) c.as_slice-2.ensures reads)
 
-pub give_fate-requires-clause-second : goal.give_fate-requires-clause-second
-give_fate-requires-clause-second g c alive =
-    let same : level (bytes_of c.as_slice-2.result.now) ≡ c.pages_level.result = ap (λ (pages : List Page). level (bytes_of pages)) (c.as_slice-2.ensures ∙ sym c.as_slice-3.ensures) ∙ sym c.pages_level.ensures in
-    subst (λ (n : ℕ). IsAtLevel n c.bring.new.self.level c.bring.new.self.second) same
-    (subst (λ (n : ℕ). IsAtLevel (level (bytes_of c.as_slice-2.result.now)) n c.bring.new.self.second) (ap (λ p. p.level) (sym c.bring.ensures.frame)) (c.in_ok-bring.ensures.second alive).0)
-
--- a copy failed that counted as alive before the call
-abbrev Failed : (g : Over) → View → View → Complex _ _ g.P.Plant g.C.Steady g.C.Copying → Dev → Type 0
-Failed g old new s d = (half_of s d).alive ≡ true → Rose (old.faults (Disk d)) (new.faults (Disk d))
-
 pub returns-in_default-clause-both_failed : goal.returns-in_default-clause-both_failed
 returns-in_default-clause-both_failed g c both told =
     let w = (goal.at.returns-in_default-clause-both_failed g c).After-choose_any in
     let neither = c.in_default.ensures.neither (search rules) in
-    each (Failed g (view_of c.args.self.now) (view_of c.choose_any.new.self) c.args.self.now) ((saw1 g w).unseen told neither.0) ((saw2 g w).unseen told neither.1)
+    each (λ d. (half_of c.args.self.now d).alive ≡ true → Rose ((view_of c.args.self.now).faults (Disk d)) ((view_of c.choose_any.new.self).faults (Disk d))) ((saw1 g w).unseen told neither.0) ((saw2 g w).unseen told neither.1)
 
 pub returns-clause-left : goal.returns-clause-left
 returns-clause-left g c told =
@@ -155,9 +144,6 @@ returns-clause-picked g c told =
 
 -- HOW MANY PAGES
 
-pub see_on-requires-2-clause-config : goal.see_on-requires-2-clause-config
-see_on-requires-2-clause-config g c = subst (λ (q : Queue). IsConfig q.config) (sym (ap (λ p. p.base) c.see_on.ensures.frame)) c.requires.config
-
 pub returns-clause-many : goal.returns-clause-many
 returns-clause-many g c =
     let same = ap (λ p. p.base) c.see_on.ensures.frame in
@@ -172,19 +158,23 @@ returns-in_err-bring-clause-halted g c is =
     let r = c.from_residual-in_err-bring.result in
     let p = err_from_is_err_and r c.from_residual-in_err-bring.ensures.1 in
     rose_earlier ((P.view c.args.self.now.plant).stops by) ((P.view c.choose_any.new.self.plant).stops by) ((P.view c.bring.new.self.plant).stops by) ((chose g (goal.at.returns-in_err-bring-clause-halted g c).After-choose_any).counts.goes.stops by)
-    (c.in_err-bring.ensures.halted (was_halted r p.0 c.in_err-bring.field-0.0 p.1 p.2 is))
+    (c.in_err-bring.ensures.halted (pair_error {B = Unit {0}} (λ r q. IsErrOf r RecoverHalted → IsErrOf q PairHalted) (λ _. refl) (λ is. absurd (cc is)) r c.in_err-bring.field-0.0 p is))
 
 pub returns-in_err-bring-clause-both : goal.returns-in_err-bring-clause-both
 returns-in_err-bring-clause-both g c is =
     let r = c.from_residual-in_err-bring.result in
     let p = err_from_is_err_and r c.from_residual-in_err-bring.ensures.1 in
-    absurd (not_brought r p.0 c.in_err-bring.field-0.0 p.1 p.2 c.in_err-bring.ensures.not_both is)
+    absurd (c.in_err-bring.ensures.not_both (pair_error {B = Unit {0}} (λ r q. IsErrOf r RecoverBothLost → IsErrOf q PairBothLost) (λ is. absurd (cc is)) (λ _. refl) r c.in_err-bring.field-0.0 p is))
+
+-- how far the pages brought have come, by the level that is handed on
+at_level : (one two three : List Page) (l reached now : ℕ) (place : Place) → two ≡ one → three ≡ one → l ≡ level (bytes_of three) → now ≡ reached → IsAtLevel (level (bytes_of two)) reached place → IsAtLevel l now place
+at_level one two three l reached now place a b is same = rw (is, same, b ∙ sym a) (λ x. x)
 
 pub give_fate-requires-clause-first : goal.give_fate-requires-clause-first
-give_fate-requires-clause-first g c alive =
-    let same : level (bytes_of c.as_slice-2.result.now) ≡ c.pages_level.result = ap (λ (pages : List Page). level (bytes_of pages)) (c.as_slice-2.ensures ∙ sym c.as_slice-3.ensures) ∙ sym c.pages_level.ensures in
-    subst (λ (n : ℕ). IsAtLevel n c.bring.new.self.level c.bring.new.self.first) same
-    (subst (λ (n : ℕ). IsAtLevel (level (bytes_of c.as_slice-2.result.now)) n c.bring.new.self.first) (ap (λ p. p.level) (sym c.bring.ensures.frame)) (c.in_ok-bring.ensures.first alive).0)
+give_fate-requires-clause-first g c alive = at_level _ _ _ _ _ _ _ c.as_slice-2.ensures c.as_slice-3.ensures c.pages_level.ensures (ap (λ p. p.level) c.bring.ensures.frame) (c.in_ok-bring.ensures.first alive).0
+
+pub give_fate-requires-clause-second : goal.give_fate-requires-clause-second
+give_fate-requires-clause-second g c alive = at_level _ _ _ _ _ _ _ c.as_slice-2.ensures c.as_slice-3.ensures c.pages_level.ensures (ap (λ p. p.level) c.bring.ensures.frame) (c.in_ok-bring.ensures.second alive).0
 
 pub returns-in_err-bring-clause-both_failed : goal.returns-in_err-bring-clause-both_failed
 returns-in_err-bring-clause-both_failed g c =
@@ -204,42 +194,10 @@ returns-clause-low g c =
     subst (λ (ps : List Page). next_order (bytes_of ps) ≤ order_first + orders_most * length f.journal.batches) c.as_slice.ensures
     (subst (λ (n : ℕ). next_order (bytes_of c.as_slice.result.now) ≤ order_first + orders_most * n) (sym many) low)
 
--- A MEMBER THAT WAS STOPPED LEFT A COPY
-
-pub returns-in_err-first-clause-one_stands : goal.returns-in_err-first-clause-one_stands
-returns-in_err-first-clause-one_stands g c is =
-    let p = err_from_is_err_and c.from_residual.result c.from_residual.ensures.1 in
-    some_first c.see_on.new.self.pair.first.alive c.see_on.new.self.pair.second.alive
-    (c.in_err-first.ensures.stands (look_halted {U = Option (List Page)} c.from_residual.result p.0 c.in_err-first.field-0.0 p.1 p.2 is))
-
-pub returns-in_err-second-clause-one_stands : goal.returns-in_err-second-clause-one_stands
-returns-in_err-second-clause-one_stands g c is =
-    let r = c.from_residual-in_err-second.result in
-    let p = err_from_is_err_and r c.from_residual-in_err-second.ensures.1 in
-    some_second c.see_on-2.new.self.pair.first.alive c.see_on-2.new.self.pair.second.alive
-    (c.in_err-second.ensures.stands (look_halted {U = Option (List Page)} r p.0 c.in_err-second.field-0.0 p.1 p.2 is))
-
 -- BOTH COPIES ARE LOST AFTER AN ERROR: a look that ended in it left its copy
 
-pub returns-in_err-first-clause-both_failed : goal.returns-in_err-first-clause-both_failed
-returns-in_err-first-clause-both_failed g c =
-    let s = c.args.self.now in
-    let a = c.see_on.new.self in
-    if_err c.from_residual.result (λ both told. each (Failed g (view_of s) (view_of a) s)
-    (λ alive. absurd (no a.pair.first.alive (ap (λ h. h.alive) c.in_err-first.ensures.same ∙ alive) both.0))
-    (λ alive. absurd (no a.pair.second.alive (ap (λ h. h.alive) c.see_on.ensures.other ∙ alive) both.1)))
-
 pub returns-in_err-second-clause-both_failed : goal.returns-in_err-second-clause-both_failed
-returns-in_err-second-clause-both_failed g c =
-    let C = g.C.Copying in
-    let s = c.args.self.now in
-    let a = c.see_on.new.self in
-    let b = c.see_on-2.new.self in
-    if_err c.from_residual-in_err-second.result (λ both told. each (Failed g (view_of s) (view_of b) s)
-    (λ alive. fault_later Ckpt1 (view_of s) (view_of a) (view_of b)
-    (c.in_ok-first.ensures.unseen told (none_seen g.P.Plant.tells (sought C.reads (parts_of s)) (looked C.count C.room a.pair.first a.first) c.in_ok-first.first c.in_ok-first.ensures.seen (sym (ap (λ h. h.alive) c.see_on-2.ensures.other) ∙ both.0)) alive)
-    c.see_on-2.ensures.leaves.counts.goes)
-    (λ alive. absurd (no b.pair.second.alive (ap (λ h. h.alive) c.in_err-second.ensures.same ∙ (ap (λ h. h.alive) c.see_on.ensures.other ∙ alive)) both.1)))
+returns-in_err-second-clause-both_failed g c = if_err c.from_residual-in_err-second.result (λ both. absurd (no c.see_on-2.new.self.pair.second.alive c.in_err-second.ensures.stands both.1))
 
 pub returns-then-not-may_follow-clause-both_failed : goal.returns-then-not-may_follow-clause-both_failed
 returns-then-not-may_follow-clause-both_failed g c both told =

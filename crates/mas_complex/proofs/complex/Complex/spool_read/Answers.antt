@@ -1,10 +1,8 @@
-use Rattle.mas_complex.proofs.Answering.{beside_read, laws_of, left_by}
+use Rattle.mas_complex.proofs.Answering.{beside_quiet, read_quiet, volume_of, laws_of, left_by}
 use Rattle.mas_complex.proofs.complex.Complex.spool_read.Goals as goal
 
 pub invariant_of-self : goal.invariant_of-self
 invariant_of-self g c =
-    let s = c.args.self.now in
-    let p = c.read_group.new.plant in
-    let acts = c.read_group.ensures.acts in
-    let laws = laws_of g.world g.met.P.Plant g.met.C.Steady g.met.C.Copying in
-    left_by s (g.P.Plant.view p) acts.time laws acts.goes (λ told. beside_read s p acts.time laws told c.args.group c.read_group.new.into c.read_group.result (c.read_group.ensures.content told)) (λ told. (c.read_group.ensures.content told).only.paper)
+    let e = c.read_group.ensures in
+    left_by c.args.self.now (g.P.Plant.view c.read_group.new.plant) e.acts.time (laws_of g.world g.met.P.Plant g.met.C.Steady g.met.C.Copying) e.acts.goes
+    (λ told. beside_quiet _ c.read_group.new.plant e.acts.time (laws_of g.world g.met.P.Plant g.met.C.Steady g.met.C.Copying) told (volume_of c.args.self.now.base.config.groups c.args.group) (e.content told).only (read_quiet _ _ _ _ c.read_group.result (e.content told).disk)) (λ told. (e.content told).only.paper)

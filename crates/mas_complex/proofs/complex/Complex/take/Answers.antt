@@ -3,9 +3,6 @@ use Rattle.mas_complex.proofs.complex.Complex.take.Goals as goal
 
 pub invariant_of-self : goal.invariant_of-self
 invariant_of-self g c =
-    let s = c.args.self.now in
-    let new = g.P.Plant.view c.take.new.self in
-    let acts = c.take.ensures.acts in
-    left_by s new acts.time (laws_of g.world g.met.P.Plant g.met.C.Steady g.met.C.Copying) acts.goes (λ told.
-    let content = c.take.ensures.content told in
-    beside_all s new acts.time content.disks content.console) (λ told. (c.take.ensures.content told).paper)
+    let e = c.take.ensures in
+    left_by c.args.self.now (g.P.Plant.view c.take.new.self) e.acts.time (laws_of g.world g.met.P.Plant g.met.C.Steady g.met.C.Copying) e.acts.goes
+    (λ told. beside_all _ _ e.acts.time (e.content told).disks (e.content told).console) (λ told. (e.content told).paper)
