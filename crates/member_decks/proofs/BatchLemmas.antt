@@ -2,16 +2,16 @@
 use Rattle.member_decks.proofs.Names.{ℕ, ◌≤◌, List, [], ◌∷◌, refl, arith, MemberId, Batch, Entry, Kept, begun, fated, AreAll, IsFlyingBatch, IsKeptBatch}
 
 module _ (by : MemberId) where
-  -- BEGUN SOONER
+  -- BEGUN SOONER, KEPT BY NOW
 
-  kept_sooner : (es : List Entry) (sooner from now : ℕ) (b : Batch) → sooner ≤ from → IsKeptBatch by es from now b → IsKeptBatch by es sooner now b
-  kept_sooner es sooner from now b le k = record { by_it = k.by_it; entries = k.entries; kept = k.kept; moments = (omega (arith, le, k.moments.0), k.moments.1, k.moments.2) }
+  pub kept_within : (es : List Entry) (sooner from mid now : ℕ) (b : Batch) → sooner ≤ from → mid ≤ now → IsKeptBatch by es from mid b → IsKeptBatch by es sooner now b
+  kept_within es sooner from mid now b le1 le2 k = record { by_it = k.by_it; entries = k.entries; kept = k.kept; moments = (omega (arith, le1, k.moments.0), k.moments.1, omega (arith, le2, k.moments.2)) }
 
   pub all_sooner : (sooner from now : ℕ) (ess : List (List Entry)) (bs : List Batch) → sooner ≤ from → AreAll by from now ess bs → AreAll by sooner now ess bs
   all_sooner sooner from now [] [] le all = tt
   all_sooner sooner from now [] (b ∷ bs) le all = absurd all
   all_sooner sooner from now (es ∷ ess) [] le all = absurd all
-  all_sooner sooner from now (es ∷ ess) (b ∷ bs) le all = (kept_sooner es sooner from now b le all.0, all.1)
+  all_sooner sooner from now (es ∷ ess) (b ∷ bs) le all = (kept_within es sooner from now now b le (omega arith) all.0, all.1)
 
 -- A BATCH THAT BEGAN
 

@@ -4,7 +4,6 @@ pub mod TakeLemmas
 pub mod DeckLemmas
 pub mod OpenLemmas
 pub mod BatchLemmas
-pub mod PlayLemmas
 pub mod MayLemmas
 pub mod FinishLemmas
 pub mod KeepLemmas

@@ -11,10 +11,8 @@ module _ (Q : Queue) (by : MemberId) where
       (λ e. absurd (let w = rw e at is in cc))
       (λ e. let counted : reply.Count (min want (free_count Q.owners)) ≡ reply.Count n = rw e at is in
       let same : min want (free_count Q.owners) ≡ n = cc in
-      least (free_count Q.owners) e same)
-    where
-      least : (free : ℕ) → (free == 0) ≡ false → min want free ≡ n → (1 ≤ n) × (n ≤ want)
-      least free e same = let there : 1 ≤ free = grind (arith, nat_tests) in (omega (arith, some, there, same), omega (arith, same))
+      let there : 1 ≤ free_count Q.owners = grind (arith, nat_tests) in
+      (omega (arith, some, there, same), omega (arith, same)))
 
   -- the first Take, and the Takes after it
   pub take_next : (times missing n : ℕ) → 1 ≤ missing → (step Q by (command.Take missing)).1 ≡ reply.Count n

@@ -1,4 +1,4 @@
-//! What a step gives that reads a deck; batches of it that are kept, and the lines with which it closes.
+//! What a step gives that reads a deck, the lines with which it closes, and what is kept of it out of memory.
 #![tactic(auto)]
 
 mod examples;

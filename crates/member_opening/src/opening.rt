@@ -9,8 +9,8 @@ ghost use Rattle.ckpt_tables.specs.Shape.{HasSpelling};
 ghost use Rattle.queue_telling.specs.Telling.{Tell, TellSound};
 ghost use Rattle.member_node.specs.Standing.{AreFit};
 ghost use Rattle.member_node.specs.Batches.{HasDone};
-ghost use Rattle.member_decks.specs.Decks.{are_refused, ends_as, given_in, opening, takes};
-ghost use Rattle.member_decks.specs.Taking.{Gives, GivesOn};
+ghost use Rattle.member_decks.specs.Decks.{are_refused, ends_as, opening, takes};
+ghost use Rattle.member_decks.specs.Taking.{Gives, GivesAt, asked};
 
 use mas_types::{Command, JobFields, NoMemory, Reply};
 use member_decks::Opened;
@@ -43,8 +43,8 @@ pub fn take_groups(
     ensures levels { member.new.checkpoint.levels ≡ member.old.checkpoint.levels }
     ensures pages { member.new.checkpoint.pages ≡ member.old.checkpoint.pages }
     ensures taking { (Q : Queue) (times : ℕ) → missing ≤ times → Tell member.old.checkpoint.tables Q
-        → GivesOn Q (given_in Q member.old.id step (takes times Q member.old.id missing)) member.old member.new
-        result }
+        → GivesAt (asked Q member.old.id step (takes times Q member.old.id missing))
+        (λ disks per. TellSound member.old.checkpoint.tables) member.old member.new result }
     ensures all { IfOk result (λ all. (Q : Queue) (times : ℕ) → missing ≤ times → Tell member.old.checkpoint.tables Q
         → all ≡ not (are_refused times Q member.old.id missing)) }
     ensures named { All (λ e. IsReplyNamed e.reply) member.old.batch
@@ -99,8 +99,8 @@ pub fn open_deck(
     ensures levels { member.new.checkpoint.levels ≡ member.old.checkpoint.levels }
     ensures pages { member.new.checkpoint.pages ≡ member.old.checkpoint.pages }
     ensures opening { (Q : Queue) → Tell member.old.checkpoint.tables Q
-        → Gives Q (given_in Q member.old.id step (opening Q member.old.id fields groups))
-        member.old.checkpoint.tables member.new.checkpoint.tables member.new.batch result }
+        → Gives (asked Q member.old.id step (opening Q member.old.id fields groups))
+        (λ disks per. TellSound member.old.checkpoint.tables) member.new.checkpoint.tables member.new.batch result }
     ensures opened { IfOk result (λ opened. (Q : Queue) → Tell member.old.checkpoint.tables Q
         → opened ≡ ends_as Q member.old.id fields groups) }
     ensures named { All (λ e. IsReplyNamed e.reply) member.new.batch }

@@ -15,6 +15,7 @@ use Rattle.mas_types.specs.Closings.{closing_line, closing_text, detail_line, de
 use Rattle.mas_types.specs.Ids.{same_member}
 use Rattle.mas_complex.specs.Journals.{AreSettled, StepIsKept, end_of, fated, has_step}
 use Rattle.mas_complex.specs.Meaning.{Closes}
+use Rattle.mas_complex.proofs.Batches.{step_later}
 use Rattle.member_node.specs.Writes.{HasKept}
 use Rattle.member_node.proofs.WriteLemmas.{none_out}
 use Rattle.member_steps.specs.Saying.{TellKept}
@@ -66,10 +67,6 @@ IsTold batches now line = (m : MemberId) (s : ℕ) → Closes line m s → StepI
 pub told_at : (lines : List (List ℕ)) (i : ℕ) (line : List ℕ) (batches : List Batch) (now : ℕ) → TellKept lines batches now → slice_get lines i ≡ Some line → IsTold batches now line
 told_at lines i line batches now all at =
     subst (IsTold batches now) (get_or_from_slice_get lines i line line at) (All-get_or (IsTold batches now) lines i line (slice_get_within lines i line at) all)
-
-step_later : (batches : List Batch) (now t : ℕ) (m : MemberId) (s : ℕ) → now ≤ t → StepIsKept batches now m s → StepIsKept batches t m s
-step_later [] now t m s le all = tt
-step_later (b ∷ batches) now t m s le all = ((λ has. let here = all.0 has in (here.0, omega (arith, le, here.1))), step_later batches now t m s le all.1)
 
 step_append : (one two : List Batch) (t : ℕ) (m : MemberId) (s : ℕ) → StepIsKept one t m s → StepIsKept two t m s → StepIsKept (one ++ two) t m s
 step_append [] two t m s a b = b

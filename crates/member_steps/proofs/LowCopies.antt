@@ -1,17 +1,15 @@
 -- The queue after the kept batches has the sound parts, and copies that stand for it read as low tables of it.
-use Rattle.std.proofs.Common.{◌≡◌, ℕ, ◌+◌, ◌*◌, ◌≤◌, Bool, true, false, if◌then◌else◌, List, [], ◌∷◌, ◌++◌, append-nil, length, All, Option, Some, None, sym, ◌∙◌, ap, subst}
+use Rattle.std.proofs.Common.{◌≡◌, ℕ, ◌+◌, ◌*◌, ◌≤◌, Bool, true, List, ◌++◌, append-nil, length, All, Option, Some, None, sym, ◌∙◌, ap, subst}
 use Rattle.std.proofs.lemmas.Option.{same_Some as some_same}
 use Rattle.std.proofs.Math.Logic.{∥∥₁_map}
-use Rattle.std.proofs.lemmas.List.Elements.{All-append, All-nil}
 use Rattle.mas_types.specs.declared.ids.Page.{Page}
 use Rattle.mas_types.specs.declared.journals.Batch.{Batch}
 use Rattle.mas_types.specs.declared.journals.Entry.{Entry}
 use Rattle.mas_types.specs.declared.queues.Queue.{Queue}
-use Rattle.mas_types.specs.Journal.{is_kept}
 use Rattle.mas_types.specs.Limits.{page_bytes}
 use Rattle.mas_types.specs.Run.{run}
 use Rattle.mas_types.specs.Sound.{IsSound}
-use Rattle.queue_laws.specs.Runs.{IsGiven}
+use Rattle.mas_complex.proofs.Papers.{given_kept_all}
 use Rattle.queue_laws.proofs.RunLaws.{runs_keep_configuration, runs_keep_sound}
 use Rattle.ckpt_copy.specs.Pages.{bytes_of}
 use Rattle.ckpt_tables.specs.declared.tables.Tables.{Tables}
@@ -35,20 +33,11 @@ use Rattle.member_steps.proofs.SoundQueues.{sound_is}
 
 -- THE QUEUE
 
-given_if : (base : Queue) (kept : Bool) (es : List Entry) → All (IsGiven base) es → All (IsGiven base) (if kept then es else [])
-given_if base true es given = given
-given_if base false es given = All-nil (IsGiven base)
-
-given_kept : (base : Queue) (bs : List Batch) → AreGivenIn base bs → All (IsGiven base) (kept_all bs)
-given_kept base [] given = All-nil (IsGiven base)
-given_kept base (b ∷ bs) given =
-    All-append (IsGiven base) (if is_kept b.fate then b.entries else []) (kept_all bs) (given_if base (is_kept b.fate) b.entries given.0) (given_kept base bs given.1)
-
 -- entries that may be given leave the sound parts
 pub kept_sound : (base : Queue) (bs : List Batch) (c : Option Batch) → c ≡ None → IsSound base → ∥ AreGivenIn base (bs ++ in_flight c) ∥₁ → IsSound (run base (kept_all bs))
 kept_sound base bs c none sound given =
     let same : bs ++ in_flight c ≡ bs = ap (λ (o : Option Batch). bs ++ in_flight o) none ∙ append-nil bs in
-    sound_is (run base (kept_all bs)) (∥∥₁_map given (λ g. runs_keep_sound base (kept_all bs) sound (given_kept base bs (subst (λ (l : List Batch). AreGivenIn base l) same g))))
+    sound_is (run base (kept_all bs)) (∥∥₁_map given (λ g. runs_keep_sound base (kept_all bs) sound (given_kept_all base bs (subst (λ (l : List Batch). AreGivenIn base l) same g))))
 
 pub sound_told : (Q : Queue) → IsSound Q → IsToldSound Q
 sound_told Q sound t told = record { queue = Q; told = told; sound = sound }

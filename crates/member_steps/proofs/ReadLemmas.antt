@@ -111,13 +111,7 @@ low_written told alive place count config batches k read drawn low rests t = low
 -- AT THE LOCK AGAIN, after a step
 
 pub at_lock : {P C : Type 0} (tells : Type 0) (x : Parts P C) (batch : List Entry) (k : Checkpoint) (room : List Page) → IsBetween tells x batch k → length room ≡ length k.pages → IsAtLock x.current x.placed batch k room
-at_lock tells x batch k room between many = record {
-  none = between.none;
-  unplaced = between.unplaced;
-  nothing = between.nothing;
-  drawn = between.drawn;
-  many = many;
-}
+at_lock tells x batch k room between many = assumption (between, many)
 
 pub calm_rest : (tells : Type 0) (alive : Bool) (place : Place) (count : ℕ) (pages : List Page) (read : Option (List ℕ)) (n : ℕ) → n ≡ length pages → RestsAt tells alive place count pages read → IsCalm alive place count n
 calm_rest tells alive place count pages read n many rests = record { before = rests.before; as_many = λ on. many ∙ rests.as_many on }
@@ -132,17 +126,11 @@ one_batch front batches placed current b now unplaced none kept =
 -- a member that is at the lock, and has read
 pub between_read : {P C : Type 0} (tells : Type 0) (x : Parts P C) (batch : List Entry) (k : Checkpoint) (config : Config) → x.current ≡ None → x.placed ≡ false → batch ≡ [] → IsUpTo config k.pages k
     → (tells → ∥ Tell k.tables (run x.base (kept_all x.batches)) ∥₁) → (tells → ∥ HaveOrders k.tables ∥₁) → (tells → x.level ≡ k.level) → (tells → IsToldSound (run x.base (kept_all x.batches))) → IsBetween tells x batch k
-between_read tells x batch k config none unplaced nothing up told ordered at sound = record {
-  none = none;
-  unplaced = unplaced;
-  same_level = at;
-  nothing = nothing;
-  drawn = up.drawn;
-  queue = λ t. tell_is k.tables (run x.base (kept_all x.batches)) (told t);
-  fit = up.may.fit;
-  orders = λ t. orders_are k.tables (ordered t);
-  sound = λ t. sound t k.tables (tell_is k.tables (run x.base (kept_all x.batches)) (told t));
-}
+between_read tells x batch k config none unplaced nothing up told ordered at sound =
+    let queue : tells → Tell k.tables (run x.base (kept_all x.batches)) = λ t. tell_is k.tables (run x.base (kept_all x.batches)) (told t) in
+    let orders : tells → HaveOrders k.tables = λ t. orders_are k.tables (ordered t) in
+    let whole : tells → TellSound k.tables = λ t. sound t k.tables (queue t) in
+    assumption (none, unplaced, nothing, up.drawn, up.may.fit, at, queue, orders, whole)
 
 -- a member's pages are as many as the configuration of a run has
 pub pages_of_run : (base : Queue) (es : List Entry) (k : Checkpoint) (room : List Page) → base.config ≡ k.tables.config → AreDrawn k.tables k.level k.levels k.pages → length room ≡ length k.pages → page_count (run base es).config ≡ length room
@@ -153,14 +141,9 @@ level_low config k up = subst (λ (l : ℕ). l < too_high) (drawn_level k.tables
 
 -- a member between commands, by other names
 pub between_by : {P C : Type 0} (told : Type 0) (x y : Parts P C) (batch : List Entry) (k : Checkpoint) → y.base ≡ x.base → y.batches ≡ x.batches → y.current ≡ x.current → y.placed ≡ x.placed → y.level ≡ x.level → IsBetween told x batch k → IsBetween told y batch k
-between_by told x y batch k one two three four five b = record {
-  none = three ∙ b.none;
-  unplaced = four ∙ b.unplaced;
-  same_level = λ t. five ∙ b.same_level t;
-  nothing = b.nothing;
-  drawn = b.drawn;
-  queue = λ t. subst (Tell k.tables) (sym (ap (λ (q : Queue). run q (kept_all y.batches)) one ∙ ap (λ (bs : List Batch). run x.base (kept_all bs)) two)) (b.queue t);
-  fit = b.fit;
-  orders = b.orders;
-  sound = b.sound;
-}
+between_by told x y batch k one two three four five b =
+    let none : y.current ≡ None = three ∙ b.none in
+    let unplaced : y.placed ≡ false = four ∙ b.unplaced in
+    let level : told → y.level ≡ k.level = λ t. five ∙ b.same_level t in
+    let queue : told → Tell k.tables (run y.base (kept_all y.batches)) = λ t. subst (Tell k.tables) (sym (ap (λ (q : Queue). run q (kept_all y.batches)) one ∙ ap (λ (bs : List Batch). run x.base (kept_all bs)) two)) (b.queue t) in
+    assumption (b, none, unplaced, level, queue)

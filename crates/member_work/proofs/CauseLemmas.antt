@@ -2,7 +2,6 @@
 use Rattle.member_work.proofs.Names.{ℕ, Option, None, Some, arith, Closing, Spool, MemberId, Disk as DiskPart, View, Goes, IsFoundLost, GroupNo, HasFailed, IsReadAs, List, Read, Text}
 use Rattle.mas_types.specs.declared.answers.Closing.TheVariants as closing
 use Rattle.mas_types.specs.declared.commands.Reply.TheVariants as reply
-use Rattle.job_outcome.specs.declared.units.UnitEnd.TheVariants as ends
 use Rattle.member_work.specs.Causes.{MayRefuse}
 use Rattle.member_work.proofs.PrintedLemmas.{failed_wider}
 use Rattle.job_outcome.specs.declared.outcomes.Read.TheVariants as read

@@ -1,5 +1,5 @@
 -- Commands of a unit on a member's tables, one after another.
-use Rattle.member_work.proofs.Names.{◌≡◌, ℕ, zero, suc, ◌+◌, ◌-◌, ◌<◌, ◌≤◌, ◌==◌, min, ◌⊎◌, take, drop, if◌then◌else◌, Bool, true, false, List, [], ◌∷◌, ◌++◌, length, Some, Result, Ok, Err, ◌∙◌, ⊎_elim, length-append, refl, ap, subst, sym, arith, append-nil, append_assoc, slice_get, Command, Reply, Closing, GroupNo, JobNo, MemberId, OutSpec, Text, Whole, Entry, Queue, groups_of_outputs, outputs_at_end, job_at, groups_needed, member_count, free_count, Tables, Tell, TellSound, run, step, IsThere, Spools, IsThereUnless, entry_of, reply_to, are_refused, closing_reply, given_in, takes, AreOf, IsNamedEnd, end_by, All-contains, All-weaker, Thing, held_by, groups_of, sum-groups, test_cases, HoldsOfTexts, OthersLeaveTexts, ToldAreTheirOwn, WasThere, last_reply, IsPart, AreSpooled, drop_groups, ending, taken_end, taking, is_refusal, if_ok, tells_some, eq-eqb, drop-take, take-take, counted, last_push, ended_as, CanGive, GivesAs, GivesAt, HasGiven, IsSoundPlain, LeaveWhere, MayEnd, asked, Asked}
+use Rattle.member_work.proofs.Names.{◌≡◌, ℕ, zero, suc, ◌+◌, ◌-◌, ◌<◌, ◌≤◌, ◌==◌, min, ◌⊎◌, take, drop, if◌then◌else◌, Bool, true, false, List, [], ◌∷◌, ◌++◌, length, Some, Result, Ok, Err, ◌∙◌, ⊎_elim, length-append, refl, ap, subst, sym, arith, append-nil, slice_get, Command, Reply, Closing, GroupNo, JobNo, MemberId, OutSpec, Text, Whole, Entry, Queue, groups_of_outputs, outputs_at_end, job_at, groups_needed, free_count, Tables, Tell, TellSound, run, step, IsThere, Spools, IsThereUnless, entry_of, reply_to, are_refused, closing_reply, given_in, takes, AreOf, IsNamedEnd, end_by, All-contains, All-weaker, Thing, held_by, groups_of, sum-groups, test_cases, HoldsOfTexts, OthersLeaveTexts, ToldAreTheirOwn, WasThere, last_reply, IsPart, AreSpooled, drop_groups, ending, taken_end, taking, is_refusal, if_ok, tells_some, eq-eqb, drop-take, take-take, last_push, ended_as, CanGive, GivesAs, GivesAt, HasGiven, IsSoundPlain, LeaveWhere, MayEnd, asked, Asked}
 use Rattle.mas_types.specs.declared.commands.Command.TheVariants as command
 use Rattle.mas_types.specs.declared.commands.Refusal.TheVariants as refusal
 use Rattle.mas_types.specs.declared.commands.Reply.TheVariants as reply
@@ -10,7 +10,7 @@ use Rattle.queue_laws.proofs.FreeGroups.{free_then}
 use Rattle.mas_types.specs.declared.ids.NoMemory.{NoMemory}
 use Rattle.member_node.specs.declared.member.Member.{Member}
 use Rattle.member_node.proofs.TextLemmas.{texts_after}
-use Rattle.member_decks.proofs.DeckLemmas.{count_taken}
+use Rattle.member_decks.proofs.OpenLemmas.{gives_none as none_given, gives_then, gives_told}
 use Rattle.member_decks.proofs.TakeLemmas.{take_first, take_last, take_none}
 use Rattle.job_outcome.specs.declared.units.UnitEnd.{UnitEnd}
 use Rattle.job_outcome.specs.declared.units.UnitEnd.TheVariants as ends
@@ -54,7 +54,7 @@ one_longer es mid e is = ap length is ∙ length-append es (e ∷ [])
 
 -- what was given, by another condition and another answer
 pub gives_by : (a : Asked) (holds more : Spools → ℕ → Type 0) (m n : Member) (r s : Result UnitEnd NoMemory) → ((gave all : List Entry) → IsPart r gave all → IsPart s gave all) → ((disks : Spools) (per : ℕ) → more disks per → holds disks per) → GivesAt a holds m n r → GivesAt a more m n s
-gives_by a holds more m n r s parts to one = record { gave = one.gave; batch = one.batch; part = parts one.gave _ one.part; effect = one.effect; texts = λ gone disks per h has. one.texts gone disks per (to disks per h) has }
+gives_by a holds more m n r s parts to one = record { gave = one.gave; batch = one.batch; gives = record { part = parts one.gave _ one.gives.part; effect = one.gives.effect; texts = λ gone disks per h has. one.gives.texts gone disks per (to disks per h) has } }
 
 pub gives_so : (at : ℕ) (cs : Queue → List Command) (es fs : Queue → UnitEnd) (holds more : Queue → Spools → ℕ → Type 0) (m n : Member) (r : Result UnitEnd NoMemory) → ((Q : Queue) → es Q ≡ fs Q) → ((Q : Queue) → Tell m.checkpoint.tables Q → (disks : Spools) (per : ℕ) → more Q disks per → holds Q disks per)
     → GivesAs (record { at = at; commands = cs; ends = es }) holds m n r → GivesAs (record { at = at; commands = cs; ends = fs }) more m n r
@@ -65,15 +65,9 @@ gives_so at cs es fs holds more m n r ends to g = record {
 }
 
 -- nothing was given of some commands
-pub gives_none : (Q : Queue) (by : MemberId) (at : ℕ) (cs : List Command) (holds : Spools → ℕ → Type 0) (m n : Member) (e : NoMemory) → 1 ≤ length cs → n ≡ m → Tell m.checkpoint.tables Q → GivesAt (asked Q by at cs) holds m n (Err e)
+pub gives_none : (Q : Queue) (by : MemberId) (at : ℕ) (cs : List Command) (holds : Spools → ℕ → Type 0) (m n : Member) (e : NoMemory) → 1 ≤ length cs → n ≡ m → Tell m.checkpoint.tables Q → GivesAt {T = UnitEnd} (asked Q by at cs) holds m n (Err e)
 gives_none Q by at [] holds m n e some same told = absurd (omega (arith, some))
-gives_none Q by at (c ∷ cs) holds m n e some same told = record {
-  gave = [];
-  batch = ap (λ (k : Member). k.batch) same ∙ sym (append-nil m.batch);
-  part = (given_in Q by at (c ∷ cs), refl, omega arith);
-  effect = subst (λ (k : Member). Tell k.checkpoint.tables Q) (sym same) told;
-  texts = λ gone disks per h has. has;
-}
+gives_none Q by at (c ∷ cs) holds m n e some same told = rw same (none_given Q by at (c ∷ cs) holds m (Err e) (given_in Q by at (c ∷ cs), refl, omega arith) told)
 
 -- a command that brings no text
 pub leaves_texts : OthersLeaveTexts → ToldAreTheirOwn → (Q : Queue) (by : MemberId) (at : ℕ) (c : Command) (t : Tables) → Tell t Q → LeaveWhere (λ disks per. IsSoundPlain t c) Q (entry_of Q by at c ∷ [])
@@ -81,22 +75,18 @@ leaves_texts others own Q by at c t told gone disks per h has = texts_after othe
 
 -- ONE COMMAND, AND WHAT IS GIVEN AFTER IT
 
-module _ (at : ℕ) (c : Command) (first : Queue → Spools → ℕ → Type 0) (m n : Member) (x : UnitEnd) (gives : (Q : Queue) → Tell m.checkpoint.tables Q → GivesAt (asked Q m.id at (c ∷ [])) (first Q) m n (Ok x)) where
+module _ (at : ℕ) (c : Command) (first : Queue → Spools → ℕ → Type 0) (m n : Member) (x : UnitEnd) (gives : (Q : Queue) → Tell m.checkpoint.tables Q → GivesAt {E = NoMemory} (asked Q m.id at (c ∷ [])) (first Q) m n (Ok x)) where
   one_batch : (Q : Queue) → Tell m.checkpoint.tables Q → n.batch ≡ m.batch ++ entry_of Q m.id at c ∷ []
-  one_batch Q told = let g = gives Q told in g.batch ∙ ap (λ (es : List Entry). m.batch ++ es) g.part
+  one_batch Q told = let g = gives Q told in g.batch ∙ ap (λ (es : List Entry). m.batch ++ es) g.gives.part
 
   one_told : (Q : Queue) → Tell m.checkpoint.tables Q → Tell n.checkpoint.tables (step Q m.id c).0
-  one_told Q told = let g = gives Q told in subst (λ (es : List Entry). Tell n.checkpoint.tables (run Q es)) g.part g.effect
+  one_told Q told = gives_told Q m.id at (c ∷ []) (first Q) m n x (gives Q told)
 
   pub one_more : length n.batch ≡ length m.batch + 1
   one_more = let s = tells_some m.checkpoint.tables in one_longer m.batch n.batch _ (one_batch s.0 s.1)
 
   pub one_reply : (r : Reply) → r ≡ last_reply n.batch → (Q : Queue) → Tell m.checkpoint.tables Q → reply_to Q m.id c ≡ r
   one_reply r last Q told = sym (last ∙ ap last_reply (one_batch Q told) ∙ last_push m.batch (entry_of Q m.id at c))
-
-  part_then : (Q : Queue) (cs : List Command) (r : Result UnitEnd NoMemory) (gave : List Entry) → IsPart r gave (given_in (step Q m.id c).0 m.id at cs) → IsPart r (entry_of Q m.id at c ∷ gave) (given_in Q m.id at (c ∷ cs))
-  part_then Q cs (Ok end) gave part = ap (λ (es : List Entry). entry_of Q m.id at c ∷ es) part
-  part_then Q cs (Err why) gave part = (part.0, ap (λ (es : List Entry). entry_of Q m.id at c ∷ es) part.1, part.2)
 
   pub then_gives : (cs ds : Queue → List Command) (es fs : Queue → UnitEnd) (holds after : Queue → Spools → ℕ → Type 0) (o : Member) (r : Result UnitEnd NoMemory)
       → ((Q : Queue) → Tell m.checkpoint.tables Q → (cs Q ≡ c ∷ ds (step Q m.id c).0) × (es Q ≡ fs (step Q m.id c).0))
@@ -106,14 +96,9 @@ module _ (at : ℕ) (c : Command) (first : Queue → Spools → ℕ → Type 0) 
   then_gives cs ds es fs holds after o r is leaves to has two = record {
     has = given_then at m n o has two.has;
     gives = λ Q told.
-        let g = two.gives (step Q m.id c).0 (one_told Q told) in
-        subst (λ (l : List Command). GivesAt (asked Q m.id at l) (holds Q) m o r) (sym (is Q told).0) (record {
-          gave = entry_of Q m.id at c ∷ g.gave;
-          batch = g.batch ∙ ap (λ (l : List Entry). l ++ g.gave) (one_batch Q told) ∙ append_assoc m.batch (entry_of Q m.id at c ∷ []) g.gave;
-          part = part_then Q (ds (step Q m.id c).0) r g.gave (subst (λ (i : MemberId). IsPart r g.gave (given_in (step Q m.id c).0 i at (ds (step Q m.id c).0))) has.id g.part);
-          effect = g.effect;
-          texts = λ gone disks per h stand. g.texts gone disks per (to Q told disks per h) (leaves Q told gone disks per h stand);
-        });
+        let one : GivesAt {E = NoMemory} (asked Q m.id at (c ∷ [])) (holds Q) m n (Ok x) = record { gave = entry_of Q m.id at c ∷ []; batch = one_batch Q told; gives = record { part = refl; effect = one_told Q told; texts = leaves Q told } } in
+        subst (λ (l : List Command). GivesAt (asked Q m.id at l) (holds Q) m o r) (sym (is Q told).0)
+        (gives_then Q m.id at (c ∷ []) (holds Q) (ds (step Q m.id c).0) (after (step Q m.id c).0) m n o x r (to Q told) one (subst (λ (i : MemberId). GivesAt (asked (step Q m.id c).0 i at (ds (step Q m.id c).0)) (after (step Q m.id c).0) n o r) has.id (two.gives (step Q m.id c).0 (one_told Q told))));
     end = if_ok _ (λ e. (Q : Queue) → Tell m.checkpoint.tables Q → e ≡ es Q) r (λ e ends Q told. ends (step Q m.id c).0 (one_told Q told) ∙ sym (is Q told).1) two.end;
   }
 
@@ -129,16 +114,6 @@ module _ (Q : Queue) (by : MemberId) where
       let same : min want (free_count Q.owners) ≡ n = cc in
       let left = free_then by want Q.owners in
       rw e (omega (arith, left, same, less)))
-
-  -- a member has at least as many groups as a Take gave it
-  pub has_more : (want n : ℕ) → (step Q by (command.Take want)).1 ≡ reply.Count n → n ≤ member_count by (step Q by (command.Take want)).0.owners
-  has_more want n is =
-      test_cases (free_count Q.owners == 0) (n ≤ member_count by (step Q by (command.Take want)).0.owners)
-      (λ e. absurd (let w = rw e at is in cc))
-      (λ e. let counted : reply.Count (min want (free_count Q.owners)) ≡ reply.Count n = rw e at is in
-      let same : min want (free_count Q.owners) ≡ n = cc in
-      let more = count_taken by want Q.owners in
-      rw e (omega (arith, more, same)))
 
   -- a Take is refused where no group is free
   pub next_full : (want : ℕ) → free_count Q.owners ≡ 0 → (step Q by (command.Take want)).1 ≡ reply.No refusal.SpoolFull
@@ -170,14 +145,12 @@ module _ (Q : Queue) (by : MemberId) (at needed : ℕ) (some : 1 ≤ needed) whe
   pub taken_none : ((n : ℕ) → (step Q by (command.Take needed)).1 ≡ reply.Count n → ⊥) → Takes (command.Take needed ∷ drop_groups ∷ []) (end_by (reply_to Q by (command.Take needed)))
   taken_none other = taking_by Q by at needed (command.Take needed ∷ []) true (take_last Q by needed needed some some other)
 
-  all_of : (step Q by (command.Take needed)).1 ≡ reply.Count needed → (takes needed Q by needed ≡ command.Take needed ∷ []) × (are_refused needed Q by needed ≡ false)
+  -- all of them
+  pub all_of : (step Q by (command.Take needed)).1 ≡ reply.Count needed → (takes needed Q by needed ≡ command.Take needed ∷ []) × (are_refused needed Q by needed ≡ false)
   all_of got =
       let first = take_first Q by needed needed needed some (omega arith) got in
       let none = take_none (step Q by (command.Take needed)).0 by first.0 (needed - needed) (omega arith) in
       (first.2 ∙ ap (λ (cs : List Command). command.Take needed ∷ cs) none.0, first.3 ∙ none.1)
-
-  pub all_refused : (step Q by (command.Take needed)).1 ≡ reply.Count needed → are_refused needed Q by needed ≡ false
-  all_refused got = (all_of got).1
 
   pub taken_all : (step Q by (command.Take needed)).1 ≡ reply.Count needed → Takes (command.Take needed ∷ []) ends.Done
   taken_all got = taking_by Q by at needed (command.Take needed ∷ []) false (all_of got)

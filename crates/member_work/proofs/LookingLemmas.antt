@@ -1,5 +1,5 @@
 -- Looking at a job's text.
-use Rattle.member_work.proofs.Names.{◌≡◌, ℕ, zero, suc, ◌*◌, List, [], length, All, Some, slice_get, refl, sym, ap, ◌∙◌, arith, find, JobNo, Job, Config, Queue, job_at, line_count, has_number, Tables, HasSpelling, Read, Owner, Thing, JobRec, IfUsed, IsJobRec, AreJobs, HasJob, groups_where, is_things, groups_of, all_at, IsTold, eqb-true, where_picked, same_Some, slice_get-get_or, slice_get_within, find_passes, slice_index_or}
+use Rattle.member_work.proofs.Names.{◌≡◌, ℕ, zero, suc, ◌*◌, List, [], length, All, Some, slice_get, refl, sym, ap, ◌∙◌, arith, find, JobNo, Job, Config, Queue, job_at, line_count, has_number, Tables, HasSpelling, Read, Owner, Thing, JobRec, IfUsed, IsJobRec, AreJobs, HasJob, groups_where, is_things, groups_of, all_at, IsTold, eqb-true, All-weaker, Picked, lists, same_Some, slice_get_within, find_passes}
 use Rattle.std.specs.Coded.{Coded, coded_list, coded_ℕ, coded×, code_by}
 use Rattle.std.proofs.lemmas.List.Sorted.{All-permutation}
 use Rattle.track_groups.specs.Laws.{AreItsOwn}
@@ -12,9 +12,7 @@ pub groups_within : AreItsOwn → (t : Thing) (gs : List Owner) (config : Config
 groups_within own t gs config long =
     let all = groups_where (is_things t) 0 gs in
     All-permutation (IsGroupOf config) all (groups_of t gs) (own t gs)
-    (λ k d lt. let found = where_picked (is_things t) 0 gs k (slice_index_or all k d) (slice_get-get_or all k d lt) in
-    let inside = slice_get_within gs found.place found.owner_there found.there in
-    omega (arith, found.number, inside, long))
+    (All-weaker (Picked (is_things t) 0 gs) (IsGroupOf config) (λ g found. omega (arith, found.number, slice_get_within gs found.place found.owner_there found.there, long)) all (lists (is_things t) 0 gs).0)
 
 -- THE RECORD OF A JOB
 

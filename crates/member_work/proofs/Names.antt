@@ -25,7 +25,7 @@ pub use Rattle.member_decks.proofs.OpenLemmas.{tells_some, last_push}
 pub use Rattle.member_decks.proofs.PageLemmas.{all_at, text_there}
 pub use Rattle.member_decks.proofs.TakeLemmas.{take_counts}
 pub use Rattle.member_decks.specs.Spooling.{OnVolumes, Rise, SpoolCauses, page_in}
-pub use Rattle.member_decks.specs.Taking.{IsPart}
+pub use Rattle.member_decks.specs.Taking.{Asked, GivesAt, IsPart, LeaveWhere, asked}
 pub use Rattle.member_node.proofs.SpareLemmas.{sparing_then}
 pub use Rattle.member_node.specs.Batches.{last_reply}
 pub use Rattle.member_node.specs.Calls.{none_lost}
@@ -48,8 +48,8 @@ pub use Rattle.track_groups.specs.Groups.{groups_where, held_by, is_things}
 pub use Rattle.track_groups.specs.Places.{groups_of}
 pub use Rattle.std.proofs.lemmas.Bool.{eq-eqb, eqb-true, and_parts, or_left, or_right}
 pub use Rattle.std.proofs.lemmas.List.{drop-take, take-take, length-drop, length-take, length-take-le, take-append-drop}
-pub use Rattle.member_decks.proofs.HeldLemmas.{counted, of_front, where_picked}
-pub use Rattle.member_work.specs.Giving.{CanGive, GivesAs, GivesAt, HasGiven, IsSoundPlain, LeaveWhere, MayEnd, asked, Asked, LeavesTexts}
+pub use Rattle.member_decks.proofs.HeldLemmas.{Picked, lists, of_front, rise_front}
+pub use Rattle.member_work.specs.Giving.{CanGive, GivesAs, HasGiven, IsSoundPlain, MayEnd, LeavesTexts}
 pub use Rattle.queue_laws.proofs.SoundEnter.{one_group}
 pub use Rattle.std.proofs.Math.Logic.{∥∥₁_map, ∥∥₁_map₂}
 pub use Rattle.std.proofs.lemmas.Option.{slice_get-get_or, slice_get_within, same_Some, same_Some as one_output}

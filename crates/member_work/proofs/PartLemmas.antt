@@ -1,9 +1,10 @@
 -- The parts of a job's end, one after another.
-use Rattle.member_work.proofs.Names.{◌≡◌, ℕ, ◌-◌, ◌≤◌, ◌==◌, false, List, [], ◌∷◌, ◌∙◌, inl, inr, refl, ap, subst, sym, arith, find, GroupNo, JobNo, MemberId, Command, OutSpec, Entry, Queue, free_count, has_number, is_of, Spools, run, step, are_refused, given_in, leb_tells, list_any, test_cases, take_counts, AreSpooled, IsUnderWay, taken_end, taking, min, Owner, Tables, Tell, member_count, groups_of_outputs, sum-groups, one_group}
+use Rattle.member_work.proofs.Names.{◌≡◌, ◌+◌, ℕ, ◌-◌, ◌≤◌, ◌==◌, false, List, [], ◌∷◌, ◌∙◌, inl, inr, refl, ap, subst, sym, arith, find, GroupNo, JobNo, MemberId, Command, OutSpec, Entry, Queue, free_count, has_number, is_of, Spools, run, step, are_refused, given_in, leb_tells, list_any, test_cases, take_counts, AreSpooled, IsUnderWay, taken_end, taking, min, Owner, Tables, Tell, member_count, groups_of_outputs, sum-groups, one_group}
 use Rattle.mas_types.specs.declared.commands.Command.TheVariants as command
 use Rattle.mas_types.specs.declared.commands.Reply.TheVariants as reply
 use Rattle.job_outcome.specs.declared.units.UnitEnd.TheVariants as ends
-use Rattle.member_work.proofs.GivingLemmas.{all_refused, next_refused, none_free, take_not_done, has_more, taken_all, taken_none, taken_some}
+use Rattle.member_decks.proofs.DeckLemmas.{takes_enough}
+use Rattle.member_work.proofs.GivingLemmas.{all_of, next_refused, none_free, take_not_done, taken_all, taken_none, taken_some}
 
 -- ALL GROUPS WERE TAKEN
 
@@ -26,7 +27,13 @@ module _ (Q : Queue) (by : MemberId) (at needed : ℕ) (some : 1 ≤ needed) (is
       (λ e. by_count (min needed (free_count Q.owners)) (rw e refl))
 
   pub not_refused : are_refused needed Q by needed ≡ false
-  not_refused = all_refused Q by at needed some taken_got
+  not_refused = (all_of Q by at needed some taken_got).1
+
+  -- the member has as many more
+  has_more : needed ≤ member_count by (step Q by first).0.owners
+  has_more =
+      let enough = subst (λ (cs : List Command). needed + member_count by Q.owners ≤ member_count by (run Q (given_in Q by at cs)).owners) (all_of Q by at needed some taken_got).0 (takes_enough by at needed needed Q (omega arith) not_refused) in
+      omega (arith, enough)
 
   module _ (part : List Entry) (one : part ≡ given_in Q by at (taking Q by needed)) where
     pub queue_is : run Q part ≡ (step Q by first).0
@@ -34,7 +41,7 @@ module _ (Q : Queue) (by : MemberId) (at needed : ℕ) (some : 1 ≤ needed) (is
 
     -- the member has them
     pub has_groups : (t : Tables) → Tell t (run Q part) → needed ≤ member_count by t.owners
-    has_groups t told = subst (λ (gs : List Owner). needed ≤ member_count by gs) (ap (λ (R : Queue). R.owners) (sym queue_is) ∙ told.owners) (has_more Q by needed needed taken_got)
+    has_groups t told = subst (λ (gs : List Owner). needed ≤ member_count by gs) (ap (λ (R : Queue). R.owners) (sym queue_is) ∙ told.owners) has_more
 
 -- a Take leaves jobs and outputs
 take_leaves : (Q : Queue) (by : MemberId) (want : ℕ) → ((step Q by (command.Take want)).0.jobs ≡ Q.jobs) × ((step Q by (command.Take want)).0.outputs ≡ Q.outputs)

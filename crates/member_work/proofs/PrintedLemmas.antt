@@ -26,15 +26,10 @@ beside_on told old mid new one two = record {
 }
 
 pub beside_volumes : (told : Type 0) (by : ℕ) (old new : View) → OnVolumes told by old new → IsBeside told old new
-beside_volumes told by old new acts = record {
-  goes = acts.goes;
-  lost1 = acts.else_lost (DiskPart Ckpt1) (λ n same. absurd (cc));
-  lost2 = acts.else_lost (DiskPart Ckpt2) (λ n same. absurd (cc));
-  loses = acts.loses;
-  first = acts.first;
-  second = acts.second;
-  console = acts.console;
-}
+beside_volumes told by old new acts =
+    let lost1 : new.lost (DiskPart Ckpt1) ≡ old.lost (DiskPart Ckpt1) = acts.else_lost (DiskPart Ckpt1) (λ n same. absurd (cc)) in
+    let lost2 : new.lost (DiskPart Ckpt2) ≡ old.lost (DiskPart Ckpt2) = acts.else_lost (DiskPart Ckpt2) (λ n same. absurd (cc)) in
+    assumption (acts, lost1, lost2)
 
 pub beside_print : (told : Type 0) (by : MemberId) (line : List ℕ) (old new : View) (r : Act) → Acts by.0 (Printer by) old new r → (told → Prints by.0 line old new r) → IsBeside told old new
 beside_print told by line old new r acts content = record {

@@ -1,9 +1,7 @@
 -- The outputs of a job, one after another, in a member's groups.
-use Rattle.member_work.proofs.Names.{◌≡◌, ◌≢◌, ℕ, zero, suc, ◌+◌, ◌≤◌, ◌==◌, true, false, List, [], ◌∷◌, ◌++◌, length, take, drop, All, Some, Result, Ok, Err, slice_get, sym, ◌∙◌, ap, subst, arith, GroupNo, OutSpec, groups_of_outputs, groups_needed, Disk as DiskPart, Spool, View, Goes, volume_of, Spools, IsSynced, AreQuiet, StandBelow, lies_there, Rise, SpoolCauses, page_in, All-drop, All-head, All-tail, All-take, IsOutSpec, HasNeededGroups, ReadsTexts, sum-groups, sparing_then, text_there, AreSpooled, AreWritten, none_lost, SparesBut, length-drop, length-take, length-take-le, take-append-drop, of_front, slice_get-get_or, slice_get_within}
+use Rattle.member_work.proofs.Names.{◌≡◌, ◌≢◌, ℕ, zero, suc, ◌+◌, ◌≤◌, ◌==◌, true, List, [], ◌∷◌, ◌++◌, length, take, drop, All, Some, slice_get, sym, ◌∙◌, ap, subst, arith, GroupNo, OutSpec, groups_of_outputs, groups_needed, volume_of, Spools, IsSynced, AreQuiet, StandBelow, lies_there, Rise, page_in, All-drop, All-head, All-tail, All-take, IsOutSpec, HasNeededGroups, ReadsTexts, sum-groups, text_there, AreSpooled, AreWritten, length-drop, length-take, length-take-le, take-append-drop, of_front, slice_get-get_or, slice_get_within}
 use Rattle.std.proofs.lemmas.List.Folds.{list_any-append}
 use Rattle.spool_text.specs.Texts.{packed}
-use Rattle.member_decks.specs.declared.spooling.SpoolError.{SpoolError}
-use Rattle.member_decks.specs.declared.spooling.SpoolError.TheVariants.{Lost, Halted as Stopped}
 use Rattle.queue_laws.proofs.HandedOut.{or_left, or_right}
 
 -- SHARES OF GROUPS
@@ -12,9 +10,6 @@ get_behind : {A : Type 0} (n : ℕ) (xs : List A) (k : ℕ) (x : A) → slice_ge
 get_behind zero xs k x here = let same : k ≡ zero + k = omega arith in subst (λ (i : ℕ). slice_get xs i ≡ Some x) same here
 get_behind (suc n) [] k x here = absurd (cc)
 get_behind (suc n) (y ∷ xs) k x here = let same : suc (n + k) ≡ suc n + k = omega arith in subst (λ (i : ℕ). slice_get (y ∷ xs) i ≡ Some x) same (get_behind n xs k x here)
-
-pub rise_front : (n : ℕ) (groups : List GroupNo) → Rise groups → Rise (take n groups)
-rise_front n groups rise i j g h less at_i at_j = rise i j g h less (of_front n groups i g at_i) (of_front n groups j h at_j)
 
 pub rise_behind : (n : ℕ) (groups : List GroupNo) → Rise groups → Rise (drop n groups)
 rise_behind n groups rise i j g h less at_i at_j = rise (n + i) (n + j) g h (omega (arith, less)) (get_behind n groups i g at_i) (get_behind n groups j h at_j)
@@ -48,11 +43,6 @@ lies_front per v n groups there = lies_by per v n groups (list_any-append (λ (g
 
 pub lies_behind : (per v n : ℕ) (groups : List GroupNo) → lies_there per v (drop n groups) ≡ true → lies_there per v groups ≡ true
 lies_behind per v n groups there = lies_by per v n groups (list_any-append (λ (g : GroupNo). volume_of per g == v) (take n groups) (drop n groups) ∙ or_right (lies_there per v (take n groups)) (lies_there per v (drop n groups)) there)
-
-pub cause_wider : {T : Type 0} (by per : ℕ) (few groups : List GroupNo) (old mid new : View) (r : Result T SpoolError) → ((v : ℕ) → lies_there per v few ≡ true → lies_there per v groups ≡ true) → Goes old mid → SparesBut by false none_lost old mid → SpoolCauses r by per few mid new → SpoolCauses r by per groups old new
-cause_wider by per few groups old mid new (Ok done) wider goes spares cause = sparing_then by false none_lost old mid new spares cause
-cause_wider by per few groups old mid new (Err (Lost v)) wider goes spares cause = (wider v cause.0, cause.1, omega (arith, cause.2, goes.faults (DiskPart (Spool v))), sparing_then by false (λ n. n == v) old mid new spares cause.3)
-cause_wider by per few groups old mid new (Err Stopped) wider goes spares cause = (cause.0, omega (arith, cause.1, goes.stops by), sparing_then by true none_lost old mid new spares cause.2)
 
 -- WHAT STANDS
 

@@ -1,11 +1,11 @@
 -- Commands of a unit on a member's tables.
-use Rattle.member_work.specs.Names.{JobNo, MemberId, Command, OutSpec, Entry, Queue, outputs_at_end, job_at, is_member, members_most, Tables, HasSpelling, Tell, TellSound, AreFit, run, HasTexts, Spools, HasDone, given_in, AreOf, IsFit, IsGiver, UnitEnd, end_by, may_give, reply_to}
-use Rattle.std.specs.Prelude.{◌≡◌, ℕ, ◌+◌, ◌*◌, ◌≤◌, ◌<◌, ◌^◌, Bool, false, true, List, [], ◌∷◌, ◌++◌, length, take, Result, IfOk}
+use Rattle.member_work.specs.Names.{JobNo, MemberId, Command, OutSpec, Entry, Queue, outputs_at_end, job_at, is_member, members_most, Tables, HasSpelling, Tell, TellSound, AreFit, run, HasTexts, Spools, HasDone, AreOf, IsFit, IsGiver, UnitEnd, end_by, may_give, reply_to}
+use Rattle.std.specs.Prelude.{◌≡◌, ℕ, ◌+◌, ◌*◌, ◌≤◌, ◌<◌, ◌^◌, Bool, false, true, List, [], ◌∷◌, length, take, Result, IfOk}
 use Rattle.mas_types.specs.declared.ids.NoMemory.{NoMemory}
 use Rattle.track_groups.specs.Groups.{held_by}
 use Rattle.queue_texts.specs.Leaving.{brings_text}
 use Rattle.member_node.specs.declared.member.Member.{Member}
-use Rattle.member_decks.specs.Taking.{IsPart}
+use Rattle.member_decks.specs.Taking.{GivesAt, asked}
 use Rattle.member_work.specs.Spooled.{AreSpooled}
 use Rattle.member_work.specs.Steps.{IsUnderWay}
 use Rattle.member_work.specs.Units.{groups_for_end, drop_groups, ended_as, taken_end, taking}
@@ -38,11 +38,6 @@ pub record HasGiven (at : ℕ) (m n : Member) : Type 0 where
   pub sound : TellSound m.checkpoint.tables → TellSound n.checkpoint.tables
   pub order : n.checkpoint.tables.order + 32 * length m.batch ≤ m.checkpoint.tables.order + 32 * length n.batch
 
--- entries that leave a queue's texts on volumes where this holds
-abbrev pub LeaveWhere : (Spools → ℕ → Type 0) → Queue → List Entry → Type 0
-LeaveWhere holds Q es = (gone : ℕ → Bool) (disks : Spools) (per : ℕ) → holds disks per → HasTexts gone disks per Q
-    → HasTexts gone disks per (run Q es)
-
 -- what a command asks of a member that gives it, by its tables
 pub record IsOwn (m : Member) (c : Command) : Type 0 where
   pub fit : IsFit c
@@ -56,25 +51,6 @@ pub record MayGiveOne (m : Member) (c : Command) : Type 0 where
   pub spelling : HasSpelling m.checkpoint.tables
   pub fit : AreFit m.checkpoint.tables
   pub order : m.checkpoint.tables.order + 32 < 2 ^ 63
-
--- commands that a member gives in a step, and the queue at which the first one is given
-pub record Asked : Type 0 where
-  pub queue : Queue
-  pub by : MemberId
-  pub at : ℕ
-  pub commands : List Command
-
-abbrev pub asked : Queue → MemberId → ℕ → List Command → Asked
-asked Q by at cs = record { queue = Q; by = by; at = at; commands = cs }
-
--- These commands, given at a queue that the tables told: all of them, or, out of memory, the first ones.
-pub record GivesAt (a : Asked) (holds : Spools → ℕ → Type 0) (m n : Member) (result : Result UnitEnd NoMemory)
-    : Type 0 where
-  pub gave : List Entry
-  pub batch : n.batch ≡ m.batch ++ gave
-  pub part : IsPart result gave (given_in a.queue a.by a.at a.commands)
-  pub effect : Tell n.checkpoint.tables (run a.queue gave)
-  pub texts : LeaveWhere holds a.queue gave
 
 -- what a member gives in a step, by the queue: its commands, and how a unit ends with them
 pub record Giving : Type 0 where

@@ -3,7 +3,7 @@ use Rattle.std.proofs.lemmas.Result.{err_from_is_err_and}
 use Rattle.mas_complex.specs.Texts.{spools_at}
 use Rattle.member_node.specs.Calls.{none_lost}
 use Rattle.member_node.proofs.SpareLemmas.{sparing_then}
-use Rattle.member_decks.proofs.PageLemmas.{acts_on, cause_after, kept_quiet, kept_then, text_there}
+use Rattle.member_decks.proofs.PageLemmas.{acts_on, cause_by, kept_quiet, kept_then, text_there}
 use Rattle.member_opening.proofs.spooling.spool_text.Goals as goal
 
 pub returns-clause-acts : goal.returns-clause-acts
@@ -23,7 +23,7 @@ returns-in_err-sync_volumes-clause-cause g c =
     let base : c.write_pages.new.complex.base ≡ x.base = ap (λ p. p.base) c.write_pages.ensures.frame in
     let p = err_from_is_err_and c.from_residual-in_err-sync_volumes.result c.from_residual-in_err-sync_volumes.ensures.1 in
     rw (p.1, p.2)
-    (cause_after {T = Unit {0}} c.args.by.0 x.base.config.groups c.args.groups.now (P.view x.plant) (P.view c.write_pages.new.complex.plant) (P.view c.sync_volumes.new.complex.plant) (Err c.in_err-sync_volumes.field-0.0) c.write_pages.ensures.acts.goes c.in_ok-write_pages.ensures.cause
+    (cause_by {T = Unit {0}} c.args.by.0 x.base.config.groups c.args.groups.now c.args.groups.now (P.view x.plant) (P.view c.write_pages.new.complex.plant) (P.view c.sync_volumes.new.complex.plant) (Err c.in_err-sync_volumes.field-0.0) (λ v there. there) c.write_pages.ensures.acts.goes c.in_ok-write_pages.ensures.cause
     (rw base at c.in_err-sync_volumes.ensures.cause))
 
 pub returns-clause-there : goal.returns-clause-there

@@ -1,7 +1,7 @@
-use Rattle.std.proofs.Common.{◌≡◌, ◌∙◌, Bool, true, false, sym}
+use Rattle.std.proofs.Common.{◌≡◌, ◌∙◌, ℕ, [], ◌∷◌, Bool, true, false, subst, sym}
 use Rattle.member_decks.specs.Spooling.{lies_there}
 use Rattle.member_node.proofs.SpareLemmas.{sparing_none}
-use Rattle.member_decks.proofs.PageLemmas.{act_on, acts_none, cause_of, not_there}
+use Rattle.member_decks.proofs.PageLemmas.{act_on, acts_none, cause_of, lies_alone, lies_among}
 use Rattle.member_opening.proofs.spooling.sync_volume.Goals as goal
 
 pub returns-then-not-lies_there-clause-acts : goal.returns-then-not-lies_there-clause-acts
@@ -16,7 +16,8 @@ pub returns-then-not-lies_there-clause-synced : goal.returns-then-not-lies_there
 returns-then-not-lies_there-clause-synced g c told k h here on =
     let lies = rw c.config.ensures at c.lies_there.ensures in
     let none : lies_there c.args.complex.now.base.config.groups c.args.volume c.args.groups.now ≡ false = sym lies ∙ c.if-not-lies_there.true in
-    absurd (not_there c.args.complex.now.base.config.groups c.args.volume c.args.groups.now k h none here on)
+    let there = lies_among c.args.complex.now.base.config.groups c.args.volume c.args.groups.now k h here (subst (λ (v : ℕ). lies_there c.args.complex.now.base.config.groups v (h ∷ []) ≡ true) on (lies_alone c.args.complex.now.base.config.groups h)) in
+    absurd (cc (there, none))
 
 pub returns-then-not-lies_there-clause-cause : goal.returns-then-not-lies_there-clause-cause
 returns-then-not-lies_there-clause-cause g c = sparing_none c.args.by.0 (g.P.Plant.view c.args.complex.now.plant)

@@ -2,7 +2,8 @@ use Rattle.std.proofs.Common.{◌≡◌, ◌∙◌, ℕ, List, Some, length, ap,
 use Rattle.mas_types.specs.Limits.{page_bytes}
 use Rattle.spool_text.specs.Texts.{packed}
 use Rattle.spool_volumes.specs.Volumes.{volume_of}
-use Rattle.member_decks.proofs.PageLemmas.{act_on, all_at, cause_of, lies_alone, on_done, spares, stands}
+use Rattle.mas_complex.proofs.Spooled.{spared_other}
+use Rattle.member_decks.proofs.PageLemmas.{act_on, all_at, cause_of, lies_alone, on_done, stands}
 use Rattle.member_opening.proofs.spooling.write_page.Goals as goal
 
 pub returns-clause-acts : goal.returns-clause-acts
@@ -37,4 +38,5 @@ returns-clause-spares g c told h other =
     let x = c.args.complex.now in
     let y = c.spool_write.new.self in
     let long : length c.pack.new.into.0 ≡ page_bytes = all_at (λ (group : List ℕ). length group ≡ page_bytes) (packed c.args.text.now) c.args.place c.pack.new.into.0 (c.law_of_groups.ensures.pages c.args.text.now c.requires.text) c.pack.ensures in
-    spares (P.view x.plant) (P.view y.plant) x.base.config.groups c.args.group h c.pack.new.into c.spool_write.result long (c.spool_write.ensures.content told) other
+    let s = spared_other x.base.config.groups c.args.group (P.view x.plant) (P.view y.plant) c.pack.new.into c.spool_write.result long (c.spool_write.ensures.content told) h other in
+    record { page = s.page; synced = s.synced }

@@ -1,4 +1,4 @@
-use Rattle.std.proofs.Common.{◌≡◌, ◌≢◌, ◌∙◌, Err, ap, false, refl}
+use Rattle.std.proofs.Common.{◌≡◌, ◌≢◌, ◌∙◌, [], ◌∷◌, Err, ap, arith, false, refl}
 use Rattle.std.proofs.lemmas.Result.{err_from_is_err_and}
 use Rattle.mas_types.specs.declared.ids.GroupNo.{GroupNo}
 use Rattle.spool_text.specs.Texts.{packed}
@@ -10,7 +10,7 @@ use Rattle.mas_complex.specs.Texts.{spools_at}
 use Rattle.member_steps.proofs.SayLemmas.{frame_then}
 use Rattle.member_node.specs.Calls.{none_lost}
 use Rattle.member_node.proofs.SpareLemmas.{sparing_none, sparing_then}
-use Rattle.member_decks.proofs.PageLemmas.{acts_none, acts_on, all_at, cause_later, kept_none, kept_then, stand_next, stand_none, still_roomy}
+use Rattle.member_decks.proofs.PageLemmas.{acts_none, acts_on, all_at, cause_by, kept_none, kept_then, lies_among, stand_next, still_roomy}
 use Rattle.member_opening.proofs.spooling.write_pages.Goals as goal
 
 pub loop-place-init : goal.loop-place-init
@@ -22,7 +22,7 @@ loop-place-init g c =
       frame = refl;
       acts = acts_none P.tells c.args.by.0 (P.view x.plant);
       cause = sparing_none c.args.by.0 (P.view x.plant);
-      stand = λ t roomy. stand_none (spools_at (P.view x.plant) (P.view x.plant).now) x.base.config.groups (packed c.args.text.now) c.args.groups.now;
+      stand = λ t roomy k h lt here. absurd (omega (arith, lt));
       spares = λ t. kept_none x.base.config.groups c.args.groups.now (spools_at (P.view x.plant) (P.view x.plant).now);
     }
 
@@ -70,7 +70,7 @@ returns-in_err-write_page-clause-cause g c =
     let base : y.base ≡ x.base = ap (λ p. p.base) i.frame in
     let p = err_from_is_err_and c.from_residual.result c.from_residual.ensures.1 in
     rw (p.1, p.2)
-    (cause_later {T = Unit {0}} c.args.by.0 x.base.config.groups c.args.groups.now c.loop-place.place c.group_at.result (P.view x.plant) (P.view y.plant) (P.view z.plant) (Err c.in_err-write_page.field-0.0) c.group_at.ensures i.acts.goes i.cause (rw base at c.in_err-write_page.ensures.cause))
+    (cause_by {T = Unit {0}} c.args.by.0 x.base.config.groups (c.group_at.result ∷ []) c.args.groups.now (P.view x.plant) (P.view y.plant) (P.view z.plant) (Err c.in_err-write_page.field-0.0) (λ v there. lies_among x.base.config.groups v c.args.groups.now c.loop-place.place c.group_at.result c.group_at.ensures there) i.acts.goes i.cause (rw base at c.in_err-write_page.ensures.cause))
 
 pub returns-in_err-write_page-clause-spares : goal.returns-in_err-write_page-clause-spares
 returns-in_err-write_page-clause-spares g c told h apart =

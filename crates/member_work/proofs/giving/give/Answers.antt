@@ -1,4 +1,4 @@
-use Rattle.member_work.proofs.Names.{◌∙◌, ap, refl, subst, sym, arith, [], ◌∷◌, IsNamedEnd, end_by, entry_of, err_from_is_err_and, last_reply, last_push, AreOf, All-push, Entry, ◌≡◌}
+use Rattle.member_work.proofs.Names.{◌*◌, ◌+◌, ◌≤◌, length, TellSound, ◌∙◌, ap, refl, subst, sym, arith, [], ◌∷◌, IsNamedEnd, end_by, entry_of, err_from_is_err_and, last_reply, last_push, AreOf, All-push, Entry, ◌≡◌}
 use Rattle.member_work.proofs.GivingLemmas.{gives_none, leaves_texts, named_end, one_longer}
 use Rattle.member_work.proofs.giving.give.Goals as goal
 
@@ -27,27 +27,15 @@ returns c =
     let k = c.in_ok-do_command.ensures in
     let p = k.pushed in
     let longer = one_longer m.batch n.batch _ p.1 in
+    let own : AreOf m.id c.args.step m.batch → AreOf m.id c.args.step n.batch = λ of. subst (AreOf m.id c.args.step) (sym p.1) (All-push (λ (e : Entry). (e.by ≡ m.id) × (e.step ≡ c.args.step)) m.batch _ of (refl, refl)) in
+    let grows : length m.batch ≤ length n.batch = omega (arith, longer) in
+    let still : length n.batch ≡ length m.batch → n ≡ m = λ same. absurd (omega (arith, longer, same)) in
+    let sound : TellSound m.checkpoint.tables → TellSound n.checkpoint.tables = λ s. k.sound s (c.requires.own.may s) in
+    let order : n.checkpoint.tables.order + 32 * length m.batch ≤ m.checkpoint.tables.order + 32 * length n.batch = let le = d.order in omega (arith, le, longer) in
     record {
       does = record {
-        has = record {
-          id = d.id;
-          room = d.room;
-          behind = d.behind;
-          fresh = d.fresh;
-          level = d.level;
-          levels = d.levels;
-          pages = d.pages;
-          config = d.config;
-          spelling = d.spelling;
-          fit = d.fit;
-          own = λ of. subst (AreOf m.id c.args.step) (sym p.1) (All-push (λ (e : Entry). (e.by ≡ m.id) × (e.step ≡ c.args.step)) m.batch _ of (refl, refl));
-          grows = omega (arith, longer);
-          still = λ same. absurd (omega (arith, longer, same));
-          done = k.done;
-          sound = λ s. k.sound s (c.requires.own.may s);
-          order = let le = d.order in omega (arith, le, longer);
-        };
-        gives = λ Q told. record { gave = entry_of Q m.id c.args.step c.args.command ∷ []; batch = k.entry Q told; part = refl; effect = k.effect Q told; texts = leaves_texts c.law_of_texts.ensures.texts c.law_of_texts.ensures.told Q m.id c.args.step c.args.command m.checkpoint.tables told };
+        has = assumption (d, k.done, own, grows, still, sound, order);
+        gives = λ Q told. record { gave = entry_of Q m.id c.args.step c.args.command ∷ []; batch = k.entry Q told; gives = record { part = refl; effect = k.effect Q told; texts = leaves_texts c.law_of_texts.ensures.texts c.law_of_texts.ensures.told Q m.id c.args.step c.args.command m.checkpoint.tables told } };
         end = λ Q told. c.end_by.ensures ∙ ap end_by (c.last_reply.ensures ∙ ap last_reply (k.entry Q told) ∙ last_push m.batch (entry_of Q m.id c.args.step c.args.command));
       };
       named = subst IsNamedEnd (sym (c.end_by.ensures ∙ ap end_by (c.last_reply.ensures ∙ ap last_reply p.1 ∙ last_push m.batch _))) (named_end p.0 p.2);

@@ -1,4 +1,5 @@
 use Rattle.member_work.proofs.Names.{[], Ok, ◌∷◌, ◌∙◌, sym, subst, arith, entry_of, reply_to, IsNamedEnd, err_from_is_err_and, if_ok, tells_some, drop_groups, ended_as, GivesAt, LeavesTexts, asked}
+use Rattle.mas_types.specs.declared.ids.NoMemory.{NoMemory}
 use Rattle.member_work.proofs.GivingLemmas.{can_then, ended_refused, ended_taken, gives_none, one_more, then_gives}
 use Rattle.member_work.proofs.giving.give_or_drop.Goals as goal
 
@@ -40,8 +41,8 @@ returns c =
         has = c.give.ensures.does.has;
         gives = λ Q told.
             let g = one.does.gives Q told in
-            subst (λ cs. GivesAt (asked Q m.id c.args.step cs) (LeavesTexts m.checkpoint.tables Q (entry_of Q m.id c.args.step d)) m n (Ok c.in_ok-end.end)) (sym (ended_taken (reply_to Q m.id d) d (λ why is. c.in_default.not-Refused why (one.does.end Q told ∙ is))))
-            (record { gave = g.gave; batch = g.batch; part = g.part; effect = g.effect; texts = λ gone disks per h has. rw g.part (h.leaves gone has) });
+            subst (λ cs. GivesAt {E = NoMemory} (asked Q m.id c.args.step cs) (LeavesTexts m.checkpoint.tables Q (entry_of Q m.id c.args.step d)) m n (Ok c.in_ok-end.end)) (sym (ended_taken (reply_to Q m.id d) d (λ why is. c.in_default.not-Refused why (one.does.end Q told ∙ is))))
+            (record { gave = g.gave; batch = g.batch; gives = record { part = g.gives.part; effect = g.gives.effect; texts = λ gone disks per h has. rw g.gives.part (h.leaves gone has) } });
         end = one.does.end;
       };
       named = one.named;

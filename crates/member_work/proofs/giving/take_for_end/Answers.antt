@@ -1,4 +1,5 @@
 use Rattle.member_work.proofs.Names.{◌≡◌, Ok, ◌-◌, ◌<◌, [], ◌∷◌, ◌∙◌, ap, subst, sym, refl, arith, MemberId, Config, Queue, is_member, Tell, reply_to, IsNamedEnd, end_by, err_from_is_err_and, step, if_ok, tells_some, take_counts, drop_groups, taking, TellSound, ended_as, GivesAt, asked}
+use Rattle.mas_types.specs.declared.ids.NoMemory.{NoMemory}
 use Rattle.mas_types.specs.declared.commands.Command.TheVariants as command
 use Rattle.mas_types.specs.declared.commands.Reply.TheVariants as reply
 use Rattle.job_outcome.specs.declared.units.UnitEnd.TheVariants as ends
@@ -65,7 +66,7 @@ returns-then-taken-needed c =
     record {
       does = record {
         has = c.give.ensures.does.has;
-        gives = λ Q told. subst (λ cs. GivesAt (asked Q m.id c.args.step cs) (λ disks per. TellSound m.checkpoint.tables) m n (Ok ends.Done)) (sym (all Q told).0) (gives_by (asked Q m.id c.args.step (command.Take c.args.needed ∷ [])) _ _ m n (Ok c.in_ok-end.end) (Ok ends.Done) (λ gave its part. part) (λ disks per s. (s, refl)) (c.in_ok-end.ensures.does.gives Q told));
+        gives = λ Q told. subst (λ cs. GivesAt {E = NoMemory} (asked Q m.id c.args.step cs) (λ disks per. TellSound m.checkpoint.tables) m n (Ok ends.Done)) (sym (all Q told).0) (gives_by (asked Q m.id c.args.step (command.Take c.args.needed ∷ [])) _ _ m n (Ok c.in_ok-end.end) (Ok ends.Done) (λ gave its part. part) (λ disks per s. (s, refl)) (c.in_ok-end.ensures.does.gives Q told));
         end = λ Q told. sym (all Q told).1;
       };
       named = tt;
