@@ -39,8 +39,9 @@ pub use Rattle.mas_types.specs.declared.queues.Queue.{Queue}
 pub use Rattle.mas_types.specs.declared.queues.Thing.TheVariants.{Deck, Output as OutputThing}
 pub use Rattle.queue_gone.specs.Gone.{brings_by}
 pub use Rattle.member_asides.specs.Asides.{FindsText, HasOnlyPrinted, HasStayed, HasWritten, IsJobStill, IsOutputStill, lines_next, lowest_for, printed_in}
+pub use Rattle.member_decks.proofs.HeldLemmas.{rise_front}
 pub use Rattle.member_decks.proofs.OpenLemmas.{on_ok, tells_some}
-pub use Rattle.member_decks.proofs.PageLemmas.{act_on, acts_none, acts_on, cause_after, kept_none, kept_quiet, kept_then, lies_alone, quiet_none, quiet_on, still_roomy, there_by}
+pub use Rattle.member_decks.proofs.PageLemmas.{act_on, acts_none, acts_on, cause_by, kept_none, kept_quiet, kept_then, lies_alone, quiet_none, quiet_on, still_roomy, there_by}
 pub use Rattle.member_decks.specs.Spooling.{AreQuiet, IsQuiet, StandBelow}
 pub use Rattle.member_node.proofs.CourseLemmas.{wires_none, wires_then}
 pub use Rattle.member_node.proofs.SpareLemmas.{sparing_before, sparing_beside, sparing_done, sparing_failed, sparing_halted, sparing_more, sparing_none, sparing_then}
@@ -50,7 +51,7 @@ pub use Rattle.member_node.specs.declared.member.NodeNo.{NodeNo}
 pub use Rattle.member_node.specs.declared.member.NodeNo.TheVariants.{Halted, NoMemory}
 pub use Rattle.member_work.proofs.LookingLemmas.{coded_read, groups_within, number_of, told_job}
 pub use Rattle.member_work.proofs.PrintedLemmas.{beside_none, beside_on, beside_print, beside_volumes, failed_wider, key_of, limit_most, lines_whole, output_key, print_failed, still_busy, told_output, whole_text}
-pub use Rattle.member_work.proofs.SpoolLemmas.{all_spooled, behind_long, cause_wider, first_fits, lies_behind, lies_front, rise_behind, rise_front, still_stand}
+pub use Rattle.member_work.proofs.SpoolLemmas.{all_spooled, behind_long, first_fits, lies_behind, lies_front, rise_behind, still_stand}
 pub use Rattle.member_work.proofs.UnderWayLemmas.{both_second}
 pub use Rattle.member_work.specs.Inked.{HasInked, Inked, IsCountOf, inked_of, lines_from}
 pub use Rattle.member_work.specs.Printing.{IsChunkOf, IsPrinting, IsToldOutput}

@@ -112,7 +112,7 @@ pub part_taken : (m n : Member) (h : Holder) (p : Part) (end : UnitEnd) → Does
 part_taken m n h (part.Groups needed) end does some done =
     let s = tells_some m.checkpoint.tables in
     let g = does.gives s.0 s.1 in
-    subst (λ (i : MemberId). needed ≤ member_count i n.checkpoint.tables.owners) (sym does.has.id) (has_groups s.0 m.id h.step needed some (sym (does.end s.0 s.1) ∙ done) g.gave g.part n.checkpoint.tables g.effect)
+    subst (λ (i : MemberId). needed ≤ member_count i n.checkpoint.tables.owners) (sym does.has.id) (has_groups s.0 m.id h.step needed some (sym (does.end s.0 s.1) ∙ done) g.gave g.gives.part n.checkpoint.tables g.gives.effect)
 part_taken m n h _ end does some done = tt
 
 module _ {P C : Type 0} {plants : PlantGhosts P} {steadies : SteadyGhosts C} {copies : CopyGhosts C} (x : Complex P C plants steadies copies) (m n : Member) (h : Holder) (w : Works x m h) (p : Part) (r : Result UnitEnd OutOfMemory) (does : Does h p m n r) where
@@ -160,7 +160,7 @@ module _ {P C : Type 0} {plants : PlantGhosts P} {steadies : SteadyGhosts C} {co
   pub gave_few : length n.batch ≤ length m.batch + commands_most p
   gave_few =
       let R = (tells_some m.checkpoint.tables).0 in
-      let few = part_few r first.gave _ first.part in
+      let few = part_few r first.gave _ first.gives.part in
       let long = given_length m.id h.step R (commands_of m.id R p) in
       let both = ap length first.batch ∙ length-append m.batch first.gave in
       let most = most_commands R m.id p in
@@ -186,7 +186,7 @@ module _ {P C : Type 0} {plants : PlantGhosts P} {steadies : SteadyGhosts C} {co
         sound = λ t. g.sound (w.sound t);
         low = λ t. let le = w.low t in let more = g.order in omega (arith, le, more);
         texts = λ some t. ∥∥₁_map (texts_here m.batch w.texts kept t)
-            (λ has. subst (HasTexts (lost_now v) (spools_at v v.now) x.base.config.groups) (ap (run Q) (sym (gave_is Q (one t))) ∙ sym queue_is) ((one t).texts (lost_now v) (spools_at v v.now) x.base.config.groups (stands t) has));
+            (λ has. subst (HasTexts (lost_now v) (spools_at v v.now) x.base.config.groups) (ap (run Q) (sym (gave_is Q (one t))) ∙ sym queue_is) ((one t).gives.texts (lost_now v) (spools_at v v.now) x.base.config.groups (stands t) has));
         allowed = begins;
         untold = rw g.id w.untold;
         step = rw g.id w.step;
@@ -200,7 +200,7 @@ module _ {P C : Type 0} {plants : PlantGhosts P} {steadies : SteadyGhosts C} {co
       let few = gave_few in
       let none = ap length nothing in
       works_given (omega (arith, few, three, none)) stands kept (λ t.
-      subst (λ (es : List Entry). MayBegin x.base x.journal.batches x.printed es) (sym ((one t).batch ∙ ap (λ (es : List Entry). es ++ (one t).gave) nothing)) (part_begins x.base m.id x.journal.batches x.printed r Q h.step (commands_of m.id Q p) (one t).gave unmarked (one t).part))
+      subst (λ (es : List Entry). MayBegin x.base x.journal.batches x.printed es) (sym ((one t).batch ∙ ap (λ (es : List Entry). es ++ (one t).gave) nothing)) (part_begins m.id r Q h.step (commands_of m.id Q p) (one t).gave (one t).gives.part x.base x.journal.batches x.printed unmarked))
 
   -- WHAT WAS GIVEN, or the first ones of it, which are kept if there is memory for that
 
@@ -210,7 +210,7 @@ module _ {P C : Type 0} {plants : PlantGhosts P} {steadies : SteadyGhosts C} {co
   pub given_done : (end : UnitEnd) → r ≡ Ok end → Gave x n (Ok end)
   given_done end ok = record {
     es = gave;
-    is = λ t. gave_is Q (one t) ∙ subst (λ (a : Result UnitEnd OutOfMemory). IsPart a (one t).gave (given_in Q m.id h.step (commands_of m.id Q p))) ok (one t).part ∙ ap (λ (i : MemberId). given_in Q i h.step (commands_of i Q p)) (sym w.own);
+    is = λ t. gave_is Q (one t) ∙ subst (λ (a : Result UnitEnd OutOfMemory). IsPart a (one t).gave (given_in Q m.id h.step (commands_of m.id Q p))) ok (one t).gives.part ∙ ap (λ (i : MemberId). given_in Q i h.step (commands_of i Q p)) (sym w.own);
     of = gave_of;
     keeps = keeping_none plants.tells h.by (outside x);
     counts = counted_none h.by x.printed x.printed (Ok end) refl;
@@ -227,7 +227,7 @@ module _ {P C : Type 0} {plants : PlantGhosts P} {steadies : SteadyGhosts C} {co
       let tail : List Entry = or_one e1 (strip gave all) in
       record {
         es = gave ++ tail;
-        is = λ t. front_is gave all e1 (subst (λ (i : MemberId). LeaveOut gave (given_in Q i h.step (commands_of i Q p))) (sym w.own) (subst (λ (es : List Entry). LeaveOut es (given_in Q m.id h.step (commands_of m.id Q p))) (sym (gave_is Q (one t))) (subst (λ (a : Result UnitEnd OutOfMemory). IsPart a (one t).gave (given_in Q m.id h.step (commands_of m.id Q p))) is (one t).part)));
+        is = λ t. front_is gave all e1 (subst (λ (i : MemberId). LeaveOut gave (given_in Q i h.step (commands_of i Q p))) (sym w.own) (subst (λ (es : List Entry). LeaveOut es (given_in Q m.id h.step (commands_of m.id Q p))) (sym (gave_is Q (one t))) (subst (λ (a : Result UnitEnd OutOfMemory). IsPart a (one t).gave (given_in Q m.id h.step (commands_of m.id Q p))) is (one t).gives.part)));
         of = of_strip h.by h.step gave all e1 (refl, refl) gave_of (given_of h.by h.step (commands_of h.by Q p) Q);
         keeps = keeping_starts plants.tells h.by why (batch_of n.batch) (batch_of (m.batch ++ (gave ++ tail))) (outside x) (outside y)
             (subst (λ (es : List Entry). StartsAs (batch_of n.batch) (batch_of es)) (ap (λ (es : List Entry). es ++ tail) batch_is ∙ append_assoc m.batch gave tail) (starts_batch n.batch tail))
@@ -245,11 +245,11 @@ module _ {P C : Type 0} {plants : PlantGhosts P} {steadies : SteadyGhosts C} {co
   one_works c (Ok end) may does kept =
       let longer = one_more h.step c _ m n end does.gives in
       works_given x m n h w (part.One c) (Ok end) does (omega (arith, longer, may.0)) (λ t. (w.sound t, plain_brings c may.1.plain)) kept
-      (λ t. let its = does.gives (queue_here x m) (tells_here x m h w t) in subst (λ (es : List Entry). MayBegin x.base x.journal.batches x.printed es) (sym (its.batch ∙ ap (λ (es : List Entry). m.batch ++ es) its.part)) (more_begins x.base m.id x.journal.batches x.printed m.batch h.step c (reply_to (queue_here x m) m.id c) may.1.may may.1.fit (λ sound. may.2 t) (w.allowed t)))
+      (λ t. let its = does.gives (queue_here x m) (tells_here x m h w t) in subst (λ (es : List Entry). MayBegin x.base x.journal.batches x.printed es) (sym (its.batch ∙ ap (λ (es : List Entry). m.batch ++ es) its.gives.part)) (more_begins x.base m.id x.journal.batches x.printed m.batch h.step c (reply_to (queue_here x m) m.id c) may.1.may may.1.fit (λ sound. may.2 t) (w.allowed t)))
   one_works c (Err e) may does kept =
       let s = tells_some m.checkpoint.tables in
       let its = does.gives s.0 s.1 in
-      let front : LeaveOut its.gave (given_in s.0 m.id h.step (c ∷ [])) = its.part in
+      let front : LeaveOut its.gave (given_in s.0 m.id h.step (c ∷ [])) = its.gives.part in
       let same : 1 ≡ length (its.gave ++ front.0) = ap length front.1 in
       let long = length-append its.gave front.0 in
       let all = ap length its.batch ∙ length-append m.batch its.gave in

@@ -1,6 +1,6 @@
 -- Batches that a call leaves in the journal, by how it ended.
 use Rattle.member_giving.proofs.Names.{◌≡◌, ℕ, ◌≤◌, List, [], ◌∷◌, ◌++◌, length, Result, Ok, Err, inl, inr, ⊎_elim, append_assoc, append-nil, refl, sym, ◌∙◌, ap, subst, arith, length-append, MemberId, Batch, Entry, NodeNo, ConsoleFault, AreAll, IsKeptBatch, LeavesFirst, LeavesLast, WorkLeaves, all_entries, kept_all}
-use Rattle.member_decks.proofs.BatchLemmas.{all_sooner}
+use Rattle.member_decks.proofs.BatchLemmas.{all_sooner, kept_within}
 
 module _ (by : MemberId) where
   -- the batches that are all kept have their entries
@@ -12,18 +12,15 @@ module _ (by : MemberId) where
 
   -- BEGUN SOONER, KEPT BY NOW
 
-  kept_within : (es : List Entry) (sooner from mid now : ℕ) (b : Batch) → sooner ≤ from → mid ≤ now → IsKeptBatch by es from mid b → IsKeptBatch by es sooner now b
-  kept_within es sooner from mid now b le1 le2 k = record { by_it = k.by_it; entries = k.entries; kept = k.kept; moments = (omega (arith, le1, k.moments.0), k.moments.1, omega (arith, le2, k.moments.2)) }
-
   first_sooner : (why : NodeNo) (sooner from now : ℕ) (ess : List (List Entry)) (bs : List Batch) → sooner ≤ from → LeavesFirst why by from now ess bs → LeavesFirst why by sooner now ess bs
   first_sooner why sooner from now ess [] le leaves = tt
   first_sooner why sooner from now [] (b ∷ bs) le leaves = absurd leaves
   first_sooner why sooner from now (es ∷ ess) (b ∷ bs) le leaves = ⊎_elim
-      (λ kept. inl (kept_within es sooner from now now b le (omega arith) kept.0, kept.1))
+      (λ kept. inl (kept_within by es sooner from now now b le (omega arith) kept.0, kept.1))
       (λ last. inr (
         last.0,
         ⊎_elim
-            (λ cut. inl (cut.0, cut.1, kept_within cut.0 sooner from now now b le (omega arith) cut.2))
+            (λ cut. inl (cut.0, cut.1, kept_within by cut.0 sooner from now now b le (omega arith) cut.2))
             (λ flown. inr (flown.0, flown.1, flown.2, record { by_it = flown.3.by_it; entries = flown.3.entries; flies = flown.3.flies; moments = (omega (arith, le, flown.3.moments.0), flown.3.moments.1, flown.3.moments.2) }))
             last.1,
       ))
@@ -49,7 +46,7 @@ module _ (by : MemberId) where
   work_then r from mid now (es ∷ ess) [] more cs le1 le2 all leaves = absurd all
   work_then r from mid now (es ∷ ess) (b ∷ bs) more cs le1 le2 all leaves =
       let last = all.0.moments.2 in
-      work_next r from now es (ess ++ more) b (bs ++ cs) (kept_within es from from mid now b (omega arith) le2 all.0) (work_then r b.last mid now ess bs more cs last le2 all.1 leaves)
+      work_next r from now es (ess ++ more) b (bs ++ cs) (kept_within by es from from mid now b (omega arith) le2 all.0) (work_then r b.last mid now ess bs more cs last le2 all.1 leaves)
 
   -- nothing was begun
   pub work_none : (why : NodeNo) (from now : ℕ) (ess : List (List Entry)) → (why ≡ ConsoleFault → ⊥) → WorkLeaves (Err why) by from now ess []

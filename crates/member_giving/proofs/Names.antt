@@ -78,7 +78,8 @@ pub use Rattle.member_node.proofs.CourseLemmas.{only_none, only_on, papers_none,
 pub use Rattle.member_node.specs.Spares.{stopped_in}
 pub use Rattle.member_asides.proofs.ReachLemmas.{LeftBy, Lefts, by_all, cause_by, next_left, none_left, part_left, said_by, batch_some}
 pub use Rattle.member_steps.proofs.ReadLemmas.{between_by}
-pub use Rattle.member_work.specs.Giving.{GivesAs, GivesAt, MayEnd, asked}
+pub use Rattle.member_decks.specs.Taking.{GivesAt, asked}
+pub use Rattle.member_work.specs.Giving.{GivesAs, MayEnd}
 pub use Rattle.member_asides.proofs.SeatLemmas.{front_is, of_strip, or_one, still_commanded, strip, Kept, sits_kept}
 pub use Rattle.member_giving.specs.Kept.{HasKept, to_keep}
 pub use Rattle.member_work.proofs.GivingLemmas.{one_more, end_ending, ended_leaves, gives_so}

@@ -1,6 +1,7 @@
 -- A member at the lock, at the beginning of a sitting and at its end.
-use Rattle.member_giving.proofs.Names.{◌≡◌, ℕ, List, [], Result, ◌∙◌, ap, refl, sym, subst, arith, All-nil, Ckpt1, Ckpt2, MemberId, Journal, Queue, disk_now, PlantGhosts, Ghosts as CopyGhosts, Complex, SteadyGhosts, values_of, Member, NodeNo, HaveSaid, OnConsole, settled_later, had_as, notes_same, still_roomy, Holder, SparesOthers, HasBounds, HasSeat, IsLow, Sits, Works, outside, Entry, MayBegin, Tell, length, parts_of, queue_kept, meaning_run as run, IsClosing, ◌≤◌, closed, IsGiving, IsRoomy, first_half, second_half, between_done, can_draw, between_by}
+use Rattle.member_giving.proofs.Names.{◌+◌, ◌≡◌, ℕ, List, [], Result, ◌∙◌, ap, refl, sym, subst, arith, All-nil, Ckpt1, Ckpt2, MemberId, Journal, Queue, disk_now, PlantGhosts, Ghosts as CopyGhosts, Complex, SteadyGhosts, values_of, Member, NodeNo, HaveSaid, OnConsole, settled_later, had_as, notes_same, still_roomy, Holder, SparesOthers, HasBounds, HasSeat, IsLow, Sits, Works, outside, Entry, MayBegin, Tell, length, parts_of, queue_kept, meaning_run as run, IsClosing, ◌≤◌, closed, IsGiving, IsRoomy, first_half, second_half, between_done, can_draw, between_by}
 use Rattle.mas_types.specs.Sound.{IsSound}
+use Rattle.member_node.specs.Reads.{orders_after}
 use Rattle.mas_complex.proofs.Batches.{none_begins}
 use Rattle.member_steps.proofs.SayLemmas.{rests_as}
 use Rattle.member_giving.proofs.Keeping.{closing_said}
@@ -65,20 +66,9 @@ module _ {P C : Type 0} {plants : PlantGhosts P} {steadies : SteadyGhosts C} {co
 
   -- what a member may keep that gave something
   pub gives_works : (x : Complex P C plants steadies copies) (m : Member) (h : Holder) → Works x m h → 1 ≤ length m.batch → IsGiving plants copies (parts_of x) m h.step
-  gives_works x m h w some = record {
-    still = w.still;
-    of = w.of;
-    draws = w.draws;
-    fit = w.fit;
-    same_level = w.same_level;
-    done = w.done;
-    sound = w.sound;
-    low = λ t. let le = w.low t in let few = w.few in omega (arith, le, few);
-    texts = w.texts some;
-    allowed = w.allowed;
-    untold = w.untold;
-    step = w.step;
-  }
+  gives_works x m h w some =
+      let low : plants.tells → m.checkpoint.tables.order ≤ orders_after (length x.journal.batches + 1) = λ t. let le = w.low t in let few = w.few in omega (arith, le, few) in
+      assumption (w, low, w.texts some)
 
   -- AFTER A LINE
 

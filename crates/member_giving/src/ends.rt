@@ -48,8 +48,8 @@ pub fn close_step<P: Plant + Drop, C: Steady + Drop>(
     })
 }
 
-/// Ends a sitting in which so many commands were given, in this state of its step: nothing is said. The errors are those
-/// of [`keep`].
+/// Ends a sitting in which so many commands were given, in this state of its step: nothing is said. The errors are
+/// those of [`keep`].
 pub fn leave_step<P: Plant + Drop, C: Steady + Drop>(
     member: &mut Member,
     alloc: Global,

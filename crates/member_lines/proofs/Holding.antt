@@ -17,7 +17,7 @@ use Rattle.member_node.specs.Calls.{console_now}
 use Rattle.step_turns.specs.declared.states.Release.{Release}
 use Rattle.step_turns.specs.declared.states.Release.TheVariants.{Keep, Outer}
 use Rattle.run_turns.specs.Admissions.{Frees, Locks, Refused}
-use Rattle.run_turns.specs.Cuts.{Left, stopped_by}
+use Rattle.run_turns.specs.Cuts.{Left}
 use Rattle.run_turns.specs.Pieces.{entered, released_by, spent}
 use Rattle.run_turns.specs.Scenes.{Scene}
 use Rattle.run_turns.specs.Sights.{Cause, Cut, Ends, Stops}
@@ -69,13 +69,9 @@ module _ (by : MemberId) (at : ℕ) (end : Closing) where
     cut_lines NoMemory cut is = subst (λ (c : Option Cut). SameLines c) (sym is) refl
     cut_lines Halted cut is = subst (λ (c : Option Cut). SameLines c) (sym is.is) refl
 
-    -- the book once the line stands, and before it does
+    -- the book once the line stands
     pub whole_book : (holds_at by at end S b release None).book ≡ released_by release b by
     whole_book = ap (λ (c : Book). released_by release c by) still_spent
-
-    pub seat_book : (cause : Cause) → (holds_at by at end S b release (before_line cause)).book ≡ stopped_by by cause b
-    seat_book Stops = ap (λ (c : Book). after_stop c by) has
-    seat_book Ends = has
 
   -- WHAT IS LEFT, by what is left of the refusal with the same words
   module _ {P C : Type 0} (plants : PlantGhosts P) (S : Scene) (left : Option Cut → Left) (release : Release) (x y : Parts P C) (holds : is_holder x.book by ≡ true)

@@ -32,12 +32,12 @@ use Rattle.member_node.specs.Reads.{AreLow}
 use Rattle.member_node.specs.Wanted.{HasHad}
 use Rattle.member_steps.proofs.FateLemmas.{settled_later}
 use Rattle.member_steps.proofs.ReadLemmas.{between_by}
-use Rattle.member_sittings.specs.Gates.{HasTakenSeat}
-use Rattle.member_sittings.specs.Sat.{CopiesActed, seated_in}
+use Rattle.member_sittings.specs.Sat.{seated_in}
 use Rattle.member_sittings.specs.Whole.{HoldsLock, IsAtRest, IsSeat, first_half, second_half}
 use Rattle.step_turns.specs.declared.states.Grant.{Grant}
 use Rattle.step_turns.specs.declared.states.Grant.TheVariants.{ByLock, ForStep}
 use Rattle.step_turns.specs.declared.states.Holder.{Holder}
+use Rattle.step_turns.specs.declared.states.Release.{Release}
 use Rattle.step_turns.specs.declared.states.State.TheVariants.{Told}
 use Rattle.step_turns.specs.Sittings.{released}
 use Rattle.run_turns.specs.Admissions.{Replaces as ReplacesCopy}
@@ -45,8 +45,8 @@ use Rattle.run_turns.specs.Cuts.{Left}
 use Rattle.run_turns.specs.Pieces.{holder_of, replaced_closing}
 use Rattle.run_turns.specs.Scenes.{Scene}
 use Rattle.run_turns.specs.Sights.{Cut, LostAgain, NotLost, Renewed, Replaced}
-use Rattle.member_lines.specs.Closes.{HasClosedBy, done, failed, holds_at, stopped_so}
-use Rattle.member_lines.specs.Replaces.{HasGoneOn, IsTestedAs, MayBeAt, ReplacesBy, left_found, replacing_in}
+use Rattle.member_lines.specs.Closes.{HasClosedBy, ended_by, failed, holds_at, stopped_so}
+use Rattle.member_lines.specs.Replaces.{IsTestedAs, MayBeAt, left_found, replacing_in}
 use Rattle.member_lines.proofs.Holding.{is_empty}
 
 -- WHAT THE LINE SAYS names no member
@@ -121,6 +121,11 @@ module _ {P C : Type 0} where
   stopped_keeps ConsoleFault by x y none e = e ∙ ap (λ (z : Parts P C). record x { plant = z.plant; book = z.book }) (sym e)
   stopped_keeps NoMemory by x y none e = e ∙ ap (λ (z : Parts P C). record x { plant = z.plant; book = z.book }) (sym e)
 
+  -- nor had one that said its line, and left the lock or kept it
+  pub ended_keeps : (r : Result (Unit {0}) NodeNo) (by : MemberId) (release : Release) (x y : Parts P C) → x.reserved ≡ None → y ≡ ended_by r by release (record x { plant = y.plant }) → y ≡ record x { plant = y.plant; book = y.book }
+  ended_keeps (Ok value) by release x y none e = e ∙ ap (λ (z : Parts P C). record x { plant = y.plant; book = z.book }) (sym e)
+  ended_keeps (Err why) by release x y none e = stopped_keeps why by (record x { plant = y.plant }) y none e
+
   -- a replacement, and what follows it
   pub follows_in : (x z y : Parts P C) → z ≡ renewed_in z x → y ≡ record z { plant = y.plant; book = y.book } → y ≡ replacing_in y x
   follows_in x z y one two =
@@ -185,13 +190,6 @@ module _ {P C : Type 0} (plants : PlantGhosts P) (copies : CopyGhosts C) (by : �
     between = between_by plants.tells x y m.batch m.checkpoint base batches current placed (ap (λ (z : Parts P C). z.level) rest) s.between;
     low = λ t. subst (λ (c : Config). AreLow c (length y.batches) m.checkpoint.tables) (sym config) (subst (λ (bs : List Batch). AreLow x.base.config (length bs) m.checkpoint.tables) (sym batches) (s.low t));
   }
-
--- THE LINE, once its seat was had
-module _ {P C : Type 0} (plants : PlantGhosts P) (copies : CopyGhosts C) (S : Scene) (m n : Member) (at : ℕ) (dev : Dev) (x mid y : Parts P C) (entered : mid ≡ seated_in mid x)
-    (acts : CopiesActed plants m.id x mid done) (took : HasTakenSeat plants copies mid n) where
-  pub seats : (r : Result (Unit {0}) NodeNo) → HasGoneOn plants copies S n at dev mid y r → ReplacesBy plants copies S m n at dev x y r
-  seats (Ok value) goes_on = record { mid = mid; entered = entered; acts = acts; took = took; goes_on = goes_on }
-  seats (Err why) goes_on = inr (record { mid = mid; entered = entered; acts = acts; took = took; goes_on = goes_on })
 
 -- BEFORE IT: a member that may be given its seat, or has it
 module _ {P C : Type 0} (plants : PlantGhosts P) (copies : CopyGhosts C) where

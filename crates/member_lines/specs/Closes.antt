@@ -24,7 +24,7 @@ use Rattle.step_turns.specs.declared.states.Release.{Release}
 use Rattle.step_turns.specs.declared.states.State.TheVariants.{Told}
 use Rattle.run_turns.specs.Admissions.{Admission}
 use Rattle.run_turns.specs.Cuts.{Left, left_by}
-use Rattle.run_turns.specs.Pieces.{closes_with, is_locked, play_of}
+use Rattle.run_turns.specs.Pieces.{closes_with, is_locked, play_of, released_by}
 use Rattle.run_turns.specs.Scenes.{Scene}
 use Rattle.run_turns.specs.Steps.{stopped_lines}
 use Rattle.run_turns.specs.Sights.{Cause, Cut, Ends, Saying, Stops, Writing, clear}
@@ -89,6 +89,11 @@ abbrev pub freed_by : {P C T : Type 0} → Result T NodeNo → MemberId → Part
 freed_by (Ok value) by x = record x { book = after_free x.book by false; reserved = None }
 freed_by (Err why) by x = stopped_so {T = Unit {0}} (Err why) by x
 
+-- the line stands, and the lock is left so, or kept; or its member was stopped
+abbrev pub ended_by : {P C T : Type 0} → Result T NodeNo → MemberId → Release → Parts P C → Parts P C
+ended_by (Ok value) by release x = record x { book = released_by release x.book by }
+ended_by (Err why) by release x = stopped_so {T = Unit {0}} (Err why) by x
+
 -- what stands of the line that says that a member stopped
 abbrev pub stopped_said : {T : Type 0} → Result T NodeNo → MemberId → ℕ → List Line
 stopped_said (Ok value) by at = map (λ said. said.line) (stopped_lines by at (Some Stops))
@@ -148,6 +153,12 @@ module _ {P C : Type 0} (plants : PlantGhosts P) where
     pub cause : HasCause result sayer.0 (v x) (v y)
     pub book : (cut : Option Cut) → IsCutAs result cut → y.book ≡ (left cut).book
     pub console : plants.tells → HasStoodBy left x y result
+
+  -- a member that holds the lock said its line so, which changed nothing else, and left the lock so, or kept it
+  abbrev pub HasSaid : (Option Cut → Left) → MemberId → Release → Parts P C → Parts P C → Result (Unit {0}) NodeNo
+      → Type 0
+  HasSaid left by release x y result = HasClosedBy left by x y result
+      × (y ≡ ended_by result by release (record x { plant = y.plant }))
 
   -- what a line that finds nothing says and leaves
   abbrev pub HasStood : Scene → MemberId → ℕ → Admission → Parts P C → Parts P C → Result (Unit {0}) NodeNo → Type 0

@@ -1,5 +1,5 @@
 -- What a line leaves by which a member replaces a copy, for every answer.
-use Rattle.std.specs.Prelude.{◌≡◌, ◌⊎◌, ℕ, ◌≤◌, length, true, Option, Some, None, Result, Ok, Err, IsErrOf, OnOk}
+use Rattle.std.specs.Prelude.{◌≡◌, ℕ, ◌≤◌, length, true, Option, Some, None, Result, Ok, Err, IsErrOf, OnOk}
 use Rattle.mas_types.specs.declared.ids.Dev.{Dev}
 use Rattle.mas_types.specs.declared.ids.MemberId.{MemberId}
 use Rattle.spool_plant.specs.Acts.{Rose}
@@ -20,8 +20,7 @@ use Rattle.mas_complex.specs.Parts.{Parts, parts_of, replaced_in}
 use Rattle.member_node.specs.declared.member.Member.{Member}
 use Rattle.member_node.specs.declared.member.NodeNo.{NodeNo}
 use Rattle.member_node.specs.declared.member.NodeNo.TheVariants.{BothLost, Halted, NoMemory}
-use Rattle.member_sittings.specs.Gates.{HasTakenSeat, IsAtGate, IsAtSeat}
-use Rattle.member_sittings.specs.Sat.{CopiesActed, seated_in}
+use Rattle.member_sittings.specs.Gates.{IsAtGate, IsAtSeat}
 use Rattle.member_sittings.specs.Whole.{IsSeat}
 use Rattle.run_turns.specs.Admissions.{Replaces as ReplacesCopy}
 use Rattle.run_turns.specs.Cuts.{Left, left_by}
@@ -31,8 +30,10 @@ use Rattle.run_turns.specs.Sights.{Cut, LostAgain, NotLost, Renewed, Replaced, c
 use Rattle.step_turns.specs.declared.states.Grant.{Grant}
 use Rattle.step_turns.specs.declared.states.Grant.TheVariants.{ByLock, ForStep}
 use Rattle.step_turns.specs.declared.states.Holder.{Holder}
-use Rattle.member_lines.specs.Closes.{HasClosedBy, IsTested, done, failed, stopped_so}
-use Rattle.member_lines.specs.Locks.{IsUnseated}
+use Rattle.step_turns.specs.declared.states.State.TheVariants.{Told}
+use Rattle.step_turns.specs.Sittings.{released}
+use Rattle.member_lines.specs.Closes.{HasSaid, IsTested, failed, stopped_so}
+use Rattle.member_lines.specs.Locks.{SeatsBy}
 
 -- WHAT IS FOUND of the copy, by the answer of the replacement; after the other answers the step doesn't close
 abbrev pub found_of : Result (Unit {0}) ReplaceNo → Option Renewed
@@ -115,37 +116,19 @@ module _ {P C : Type 0} (plants : PlantGhosts P) (copies : CopyGhosts C) where
   -- What follows the replacement. Where its answer closes the step the line is said, which changes nothing but the
   -- console, and then the lock is left as the step leaves it. Else nothing follows but that a member that was stopped
   -- is stopped in the book.
-  abbrev pub FollowsBy : Option Renewed → Scene → MemberId → ℕ → Dev → Result (Unit {0}) ReplaceNo → Parts P C
+  abbrev pub FollowsBy : Option Renewed → Scene → MemberId → Holder → Dev → Result (Unit {0}) ReplaceNo → Parts P C
       → Parts P C → Result (Unit {0}) NodeNo → Type 0
-  FollowsBy (Some found) S by at dev answer x y result = HasClosedBy plants (left_found S by at dev found) by x y result
-      × (y ≡ record x { plant = y.plant; book = y.book })
-  FollowsBy None S by at dev answer x y result = EndsAs answer result × (y ≡ stopped_so result by x)
+  FollowsBy (Some found) S by h dev answer x y result =
+      HasSaid plants (left_found S by h.step dev found) by (released h.grant h.hold 0 Told) x y result
+  FollowsBy None S by h dev answer x y result = EndsAs answer result × (y ≡ stopped_so result by x)
 
   -- A member at its seat was to replace the copy, and went on by the answer.
-  pub record HasGoneOn (S : Scene) (m : Member) (at : ℕ) (dev : Dev) (x y : Parts P C)
+  pub record HasGoneOn (S : Scene) (m : Member) (h : Holder) (dev : Dev) (x y : Parts P C)
       (result : Result (Unit {0}) NodeNo) : Type 0 where
     pub there : Parts P C
     pub answer : Result (Unit {0}) ReplaceNo
     pub replaced : HasReplaced m dev x there answer
-    pub follows : FollowsBy (found_of answer) S m.id at dev answer there y result
-
-  -- It couldn't take its seat: acts on the copies alone, and nothing was said or replaced.
-  pub record HasNoSeat (S : Scene) (m : Member) (at : ℕ) (dev : Dev) (x y : Parts P C) (why : NodeNo) : Type 0 where
-    pub unseated : IsUnseated plants copies S m at (ReplacesCopy dev) x y why
-    pub frame : y ≡ stopped_so (failed why) m.id (seated_in y x)
-
-  -- It took its seat, by acts on the copies alone.
-  pub record HasSeat (S : Scene) (m n : Member) (at : ℕ) (dev : Dev) (x y : Parts P C)
-      (result : Result (Unit {0}) NodeNo) : Type 0 where
-    pub mid : Parts P C
-    pub entered : mid ≡ seated_in mid x
-    pub acts : CopiesActed plants m.id x mid done
-    pub took : HasTakenSeat plants copies mid n
-    pub goes_on : HasGoneOn S n at dev mid y result
-
-  abbrev pub ReplacesBy : Scene → Member → Member → ℕ → Dev → Parts P C → Parts P C → Result (Unit {0}) NodeNo → Type 0
-  ReplacesBy S m n at dev x y (Ok value) = HasSeat S m n at dev x y (Ok value)
-  ReplacesBy S m n at dev x y (Err why) = HasNoSeat S m at dev x y why ⊎ HasSeat S m n at dev x y (Err why)
+    pub follows : FollowsBy (found_of answer) S m.id h dev answer there y result
 
 -- OVER THE SHARED VALUE
 
@@ -179,10 +162,10 @@ module _ {P C : Type 0} {plants : PlantGhosts P} {steadies : SteadyGhosts C} {co
   abbrev pub RenewsAndCloses : Member → Holder → Dev → Complex P C plants steadies copies
       → Complex P C plants steadies copies → Result (Unit {0}) NodeNo → Type 0
   RenewsAndCloses m h dev x y result = (S : Scene) → IsTestedAs S m.id h dev x.book
-      → HasGoneOn plants copies S m h.step dev (parts_of x) (parts_of y) result
+      → HasGoneOn plants copies S m h dev (parts_of x) (parts_of y) result
 
   -- the member's line, at any scene at which it was tested so
   abbrev pub ReplacesAndCloses : Member → Member → Holder → Dev → Complex P C plants steadies copies
       → Complex P C plants steadies copies → Result (Unit {0}) NodeNo → Type 0
   ReplacesAndCloses m n h dev x y result = (S : Scene) → IsTestedAs S m.id h dev x.book
-      → ReplacesBy plants copies S m n h.step dev (parts_of x) (parts_of y) result
+      → SeatsBy plants copies (HasGoneOn plants copies S n h dev) m n (parts_of x) (parts_of y) result

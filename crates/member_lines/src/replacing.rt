@@ -11,7 +11,7 @@ ghost use Rattle.step_turns.specs.Sittings.{released};
 ghost use Rattle.step_turns.specs.declared.states.State.TheVariants.{Told};
 ghost use Rattle.run_turns.specs.Pieces.{released_by, replaced_closing};
 ghost use Rattle.run_turns.specs.Sights.{Renewed};
-ghost use Rattle.member_lines.specs.Closes.{ClosesHeld, failed};
+ghost use Rattle.member_lines.specs.Closes.{ClosesHeld, ended_by, failed};
 ghost use Rattle.member_lines.specs.Earlier.{IsStepKept};
 ghost use Rattle.member_lines.specs.Replaces.{EndsAs, MayRenew, MayReplace, MaySitDown, RenewsAndCloses, ReplacesAndCloses, WasReplaced, found_of, replacing_in};
 
@@ -111,7 +111,8 @@ fn say_and_leave<P: Plant + Drop, C: Steady + Drop>(
     requires named { AreMembersNamed end.now }
     requires kept { P.tells → IsStepKept complex.old by holder.step }
     ensures frame { parts_of complex.new
-        ≡ record (parts_of complex.old) { plant = complex.new.plant; book = complex.new.book } }
+        ≡ ended_by result by (released holder.grant holder.hold 0 Told)
+        (record (parts_of complex.old) { plant = complex.new.plant }) }
     ensures closed { ClosesHeld by holder end.now complex.old complex.new result }
 {
     let step = holder.step;

@@ -217,6 +217,7 @@ module _ {P C : Type 0} (plants : PlantGhosts P) (copies : CopyGhosts C) where
     pub taken : IsTaken by of x mid found
     pub base : mid.base ≡ x.base
     pub since : mid.since ≡ x.since
+    pub renewals : mid.renewals ≡ x.renewals
     pub reset : HasResetBy (taker_at by at mid) of mid y pages result
 
   abbrev pub TakesBy : MemberId → ℕ → MemberId → Parts P C → Parts P C → ℕ → Result (Unit {0}) NodeNo → Type 0

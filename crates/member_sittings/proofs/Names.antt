@@ -14,16 +14,17 @@ pub use Rattle.mas_types.specs.declared.commands.Reply.{Reply}
 pub use Rattle.mas_types.specs.declared.jobs.JobFields.{JobFields}
 pub use Rattle.mas_types.specs.declared.journals.Journal.{Journal}
 pub use Rattle.mas_types.specs.declared.queues.Queue.{Queue}
-pub use Rattle.member_decks.proofs.FinishLemmas.{finished_texts, finishing_fit, finishing_giver, finishing_may, finishing_unmarked, one_named, one_of}
+pub use Rattle.member_decks.proofs.FinishLemmas.{finished_texts, finishing_all, one_named, one_of}
 pub use Rattle.member_decks.proofs.OpenLemmas.{tells_some}
 pub use Rattle.member_decks.proofs.PageLemmas.{acts_none, kept_none, still_roomy}
-pub use Rattle.member_decks.proofs.PlayLemmas.{closed_of, groups_few, part_of, some_given}
+pub use Rattle.member_decks.proofs.DeckLemmas.{closed_of, groups_few}
+pub use Rattle.member_decks.proofs.MayLemmas.{opening_unmarked, part_begins, part_of}
 pub use Rattle.member_decks.specs.Batches.{AreAll}
 pub use Rattle.member_decks.specs.Decks.{are_refused, closing_reply, ends_as, ends_begun, finishing, given_in, lines_by, opening}
 pub use Rattle.mas_complex.specs.CallCounts.{PairState, pair_state}
 pub use Rattle.member_decks.specs.Keeping.{CopyCauses, GivesUpLeaves, IsOnCopies}
 pub use Rattle.member_decks.specs.Spooling.{GroupsKept, OnVolumes, Rise, SpoolCauses}
-pub use Rattle.member_decks.specs.Taking.{Gives, LeaveOut}
+pub use Rattle.member_decks.specs.Taking.{Gives, LeaveOut, asked}
 pub use Rattle.member_decks.specs.declared.opening.Opened.{Opened}
 pub use Rattle.member_node.proofs.SpareLemmas.{sparing_none}
 pub use Rattle.member_node.proofs.WriteLemmas.{none_out, run_append}

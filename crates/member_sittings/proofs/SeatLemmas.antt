@@ -1,12 +1,13 @@
 -- A member at the shared value, within a sitting and after it.
-use Rattle.member_sittings.proofs.Names.{HasSaid, State, Told, Holder, IsToKeep, may_alike, some_of_one, reply_to, ◌≡◌, ℕ, ◌+◌, ◌*◌, ◌^◌, ◌≤◌, ◌<◌, Result, IfOk, true, false, List, [], ◌∷◌, length, All, None, ◌++◌, Ok, refl, sym, ◌∙◌, ap, subst, arith, All-weaker, All-append, All-cons, ∥∥₁_map, MemberId, Command, Reply, Batch, Entry, Config, Queue, IsFit, IsJobFields, may_give, JobFields, View, PlantGhosts, Tables, TellSound, Tell, AreRoomy, AreSettled, begun, kept_all, Parts, HasTexts, lost_now, spools_at, Member, NodeNo, console_now, AreLow, orders_after, too_high, HasKept, run_append, IsBetween, entry_with, had_as, at_lock, calm_rest, low_written, one_batch, told_sound, untold_later, begins_alone, between_done, can_draw, if_ok, kept_from_out, settled_later, settled_out, AreOf, one_of, still_roomy, given_in, opening, Gives, LeaveOut, tells_some, part_of, SittingEnd, IsSatOn, journal_of, Commanded, Half, HasStepKept, HasTextsAfter, HasUntold, IsAtRest, IsBounded, IsGiving, IsRoomy, IsSeat, IsSitting, IsStepUntold, IsStill, MayKeep, first_half, queue_of, second_half, HasTextsOf, IsToCut, some_given}
+use Rattle.member_sittings.proofs.Names.{HasSaid, State, Told, Holder, IsToKeep, may_alike, some_of_one, reply_to, ◌≡◌, ℕ, ◌+◌, ◌*◌, ◌^◌, ◌≤◌, ◌<◌, Result, IfOk, true, false, List, [], ◌∷◌, length, All, None, ◌++◌, Ok, refl, sym, ◌∙◌, ap, subst, arith, All-weaker, All-append, All-cons, ∥∥₁_map, MemberId, Command, Reply, Batch, Entry, Config, Queue, IsFit, IsJobFields, may_give, JobFields, View, PlantGhosts, Tables, TellSound, Tell, AreRoomy, AreSettled, begun, kept_all, Parts, HasTexts, lost_now, spools_at, Member, NodeNo, console_now, AreLow, orders_after, too_high, HasKept, run_append, IsBetween, entry_with, had_as, at_lock, calm_rest, low_written, one_batch, told_sound, untold_later, begins_alone, between_done, can_draw, if_ok, kept_from_out, settled_later, settled_out, AreOf, one_of, still_roomy, given_in, opening, Gives, LeaveOut, asked, tells_some, opening_unmarked, part_begins, part_of, SittingEnd, IsSatOn, journal_of, Commanded, Half, HasStepKept, HasTextsAfter, HasUntold, IsAtRest, IsBounded, IsGiving, IsRoomy, IsSeat, IsSitting, IsStepUntold, IsStill, MayKeep, first_half, queue_of, second_half, HasTextsOf, IsToCut}
 use Rattle.std.specs.Prelude.{drop}
 use Rattle.std.proofs.lemmas.List.{drop_at}
 use Rattle.std.proofs.lemmas.List.Elements.{All-drop}
 use Rattle.mas_types.specs.declared.ids.Page.{Page}
 use Rattle.member_steps.proofs.SayLemmas.{none_said}
 use Rattle.member_sittings.specs.Ends.{IsQuiet}
-use Rattle.member_sittings.specs.Whole.{IsLeftIn, IsToSit}
+use Rattle.member_sittings.specs.Whole.{HoldsLock, IsLeftIn, IsToSit}
+use Rattle.member_steps.specs.Steps.{IsToldSound}
 use Rattle.paper_laws.specs.Counts.{is_mark}
 use Rattle.spool_plant.specs.Acts.{Goes}
 use Rattle.ckpt_copy.specs.declared.copying.Copying.{Ghosts as CopyGhosts}
@@ -17,7 +18,6 @@ use Rattle.member_node.specs.Batches.{HasDone}
 use Rattle.member_node.specs.Drawn.{AreDrawn}
 use Rattle.member_node.proofs.EntryLemmas.{nothing_done}
 use Rattle.member_node.specs.Wanted.{HasHad}
-use Rattle.member_decks.proofs.MayLemmas.{opening_unmarked, part_begins}
 use Rattle.member_sittings.specs.Gates.{HasTakenSeat, IsAtGate, IsOpen}
 use Rattle.member_sittings.specs.Sat.{seated_in}
 
@@ -29,21 +29,14 @@ module _ {P C : Type 0} (plants : PlantGhosts P) (copies : CopyGhosts C) where
 
   module _ (x : Parts P C) (m n : Member) (did : Commanded m n) where
     pub still_commanded : IsStill plants copies x m → IsStill plants copies x n
-    still_commanded s = record {
-      holds = rw did.id s.holds;
-      none = s.none;
-      unreserved = s.unreserved;
-      unplaced = s.unplaced;
-      here = did.here;
-      many = ap length did.room ∙ s.many ∙ sym (ap length did.pages);
-      config = s.config ∙ sym did.config;
-      first = subst (λ (ps : List Page). IsAtRest plants.tells (first_half plants copies x) ps) (sym did.pages) s.first;
-      second = subst (λ (ps : List Page). IsAtRest plants.tells (second_half plants copies x) ps) (sym did.pages) s.second;
-      noted = had_as plants.tells x.had x.had m n refl did.id did.fresh did.pages s.noted;
-      kept = s.kept;
-      begun = s.begun;
-      roomy = s.roomy;
-    }
+    still_commanded s =
+        let holds : HoldsLock x.book x.base.config n.id = rw did.id s.holds in
+        let many : length n.room ≡ length n.checkpoint.pages = ap length did.room ∙ s.many ∙ sym (ap length did.pages) in
+        let config : x.base.config ≡ n.checkpoint.tables.config = s.config ∙ sym did.config in
+        let first = subst (λ (ps : List Page). IsAtRest plants.tells (first_half plants copies x) ps) (sym did.pages) s.first in
+        let second = subst (λ (ps : List Page). IsAtRest plants.tells (second_half plants copies x) ps) (sym did.pages) s.second in
+        let noted = had_as plants.tells x.had x.had m n refl did.id did.fresh did.pages s.noted in
+        assumption (s, did, holds, many, config, first, second, noted)
 
     orders : (a b k : ℕ) → a ≤ orders_after k → b ≤ a + 320064 → b ≤ orders_after (k + 1)
     orders a b k le more = omega (arith, le, more)
@@ -95,21 +88,14 @@ module _ {P C : Type 0} (plants : PlantGhosts P) (copies : CopyGhosts C) where
     same_config = ap (λ (Q : Queue). Q.config) k.base
 
     pub still_kept : (at : ℕ) → IsGiving plants copies x m at → IsStill plants copies y n
-    still_kept at g = record {
-      holds = rw (k.book, same_config, k.id) g.still.holds;
-      none = k.between.none;
-      unreserved = k.unreserved;
-      unplaced = k.between.unplaced;
-      here = k.here;
-      many = ap length k.room ∙ g.still.many ∙ g.draws.as_many ∙ sym (k.between.drawn.spelled.count ∙ ap (λ (t : Tables). page_count t.config) k.tables);
-      config = same_config ∙ g.still.config ∙ sym (ap (λ (t : Tables). t.config) k.tables);
-      first = k.first;
-      second = k.second;
-      noted = k.noted;
-      kept = settled_out x.batches y.batches y.placed y.current (begun (view_of x).now m.id m.batch) (view_of x).now (view_of y).now k.goes.later k.between.unplaced k.between.none k.leaves g.still.kept;
-      begun = let later = k.goes.later in let begun = g.still.begun in subst (λ (s : ℕ). s ≤ (view_of y).now) (sym k.since) (omega (arith, begun, later));
-      roomy = λ t. subst (AreRoomy (view_of y)) (sym same_config) (still_roomy x.base.config (view_of x) (view_of y) k.goes (g.still.roomy t));
-    }
+    still_kept at g =
+        let holds : HoldsLock y.book y.base.config n.id = rw (k.book, same_config, k.id) g.still.holds in
+        let many : length n.room ≡ length n.checkpoint.pages = ap length k.room ∙ g.still.many ∙ g.draws.as_many ∙ sym (k.between.drawn.spelled.count ∙ ap (λ (t : Tables). page_count t.config) k.tables) in
+        let config : y.base.config ≡ n.checkpoint.tables.config = same_config ∙ g.still.config ∙ sym (ap (λ (t : Tables). t.config) k.tables) in
+        let kept = settled_out x.batches y.batches y.placed y.current (begun (view_of x).now m.id m.batch) (view_of x).now (view_of y).now k.goes.later k.between.unplaced k.between.none k.leaves g.still.kept in
+        let begun : y.since ≤ (view_of y).now = let later = k.goes.later in let begun = g.still.begun in subst (λ (s : ℕ). s ≤ (view_of y).now) (sym k.since) (omega (arith, begun, later)) in
+        let roomy : plants.tells → AreRoomy (view_of y) y.base.config = λ t. subst (AreRoomy (view_of y)) (sym same_config) (still_roomy x.base.config (view_of x) (view_of y) k.goes (g.still.roomy t)) in
+        assumption (k, holds, many, config, kept, begun, roomy)
 
     low_kept : (at : ℕ) → IsGiving plants copies x m at → plants.tells → AreLow y.base.config (length y.batches) n.checkpoint.tables
     low_kept at g t = record {
@@ -154,20 +140,11 @@ module _ {P C : Type 0} (plants : PlantGhosts P) (copies : CopyGhosts C) where
       let t = s.still in
       let config = m.checkpoint.tables.config in
       let low : plants.tells → AreLow config (length x.batches) m.checkpoint.tables = λ told. subst (λ (k : Config). AreLow k (length x.batches) m.checkpoint.tables) t.config (s.low told) in
-      record {
-        holds = t.holds;
-        at_lock = at_lock plants.tells x m.batch m.checkpoint m.room b t.many;
-        unreserved = t.unreserved;
-        first = open_of (first_half plants copies x) config (length x.batches) m low b.drawn t.many t.first;
-        second = open_of (second_half plants copies x) config (length x.batches) m low b.drawn t.many t.second;
-        sound = λ told. told_sound m.checkpoint.tables (queue_of x) (b.sound told) (b.queue told);
-        config = t.config;
-        kept = t.kept;
-        begun = t.begun;
-        roomy = t.roomy;
-        level = level;
-        noted = t.noted;
-      }
+      let lock = at_lock plants.tells x m.batch m.checkpoint m.room b t.many in
+      let first = open_of (first_half plants copies x) config (length x.batches) m low b.drawn t.many t.first in
+      let second = open_of (second_half plants copies x) config (length x.batches) m low b.drawn t.many t.second in
+      let sound : plants.tells → IsToldSound (queue_of x) = λ told. told_sound m.checkpoint.tables (queue_of x) (b.sound told) (b.queue told) in
+      assumption (t, lock, first, second, sound, level)
     where
       open_of : (h : Half) (config : Config) (batches : ℕ) (m : Member) → (plants.tells → AreLow config batches m.checkpoint.tables) → AreDrawn m.checkpoint.tables m.checkpoint.level m.checkpoint.levels m.checkpoint.pages
           → length m.room ≡ length m.checkpoint.pages → IsAtRest plants.tells h m.checkpoint.pages → IsOpen plants.tells h config batches (length m.room)
@@ -208,21 +185,14 @@ module _ {P C : Type 0} (plants : PlantGhosts P) (copies : CopyGhosts C) where
     batches = ap (λ (p : Parts P C). p.batches) k.frame
 
     still_taken : IsStill plants copies y n
-    still_taken = record {
-      holds = rw (ap (λ (p : Parts P C). p.book) k.frame, base_config, k.id) g.holds;
-      none = k.between.none;
-      unreserved = ap (λ (p : Parts P C). p.reserved) k.frame ∙ g.unreserved;
-      unplaced = k.between.unplaced;
-      here = k.here;
-      many = k.many;
-      config = base_config ∙ g.config ∙ sym k.config;
-      first = k.first;
-      second = k.second;
-      noted = k.noted;
-      kept = subst (λ (bs : List Batch). AreSettled bs (plants.view y.plant).now) (sym batches) (settled_later x.batches (plants.view x.plant).now (plants.view y.plant).now k.goes.later g.kept);
-      begun = let later = k.goes.later in let begun = g.begun in subst (λ (s : ℕ). s ≤ (plants.view y.plant).now) (sym (ap (λ (p : Parts P C). p.since) k.frame)) (omega (arith, begun, later));
-      roomy = λ t. subst (AreRoomy (plants.view y.plant)) (sym base_config) (still_roomy x.base.config (plants.view x.plant) (plants.view y.plant) k.goes (g.roomy t));
-    }
+    still_taken =
+        let holds : HoldsLock y.book y.base.config n.id = rw (ap (λ (p : Parts P C). p.book) k.frame, base_config, k.id) g.holds in
+        let unreserved : y.reserved ≡ None = ap (λ (p : Parts P C). p.reserved) k.frame ∙ g.unreserved in
+        let config : y.base.config ≡ n.checkpoint.tables.config = base_config ∙ g.config ∙ sym k.config in
+        let kept = subst (λ (bs : List Batch). AreSettled bs (plants.view y.plant).now) (sym batches) (settled_later x.batches (plants.view x.plant).now (plants.view y.plant).now k.goes.later g.kept) in
+        let begun : y.since ≤ (plants.view y.plant).now = let later = k.goes.later in let begun = g.begun in subst (λ (s : ℕ). s ≤ (plants.view y.plant).now) (sym (ap (λ (p : Parts P C). p.since) k.frame)) (omega (arith, begun, later)) in
+        let roomy : plants.tells → AreRoomy (plants.view y.plant) y.base.config = λ t. subst (AreRoomy (plants.view y.plant)) (sym base_config) (still_roomy x.base.config (plants.view x.plant) (plants.view y.plant) k.goes (g.roomy t)) in
+        assumption (k, holds, unreserved, config, kept, begun, roomy)
 
     pub taken_seat : HasTakenSeat plants copies y n
     taken_seat = record {
@@ -322,10 +292,10 @@ of_strip by at es all e its here there =
 -- WHAT WAS GIVEN
 
 abbrev pub Opens : {T E : Type 0} → ℕ → JobFields → ℕ → Member → Member → Result T E → Type 0
-Opens at fields groups m n r = (Q : Queue) → Tell m.checkpoint.tables Q → Gives Q (given_in Q m.id at (opening Q m.id fields groups)) m.checkpoint.tables n.checkpoint.tables n.batch r
+Opens at fields groups m n r = (Q : Queue) → Tell m.checkpoint.tables Q → Gives (asked Q m.id at (opening Q m.id fields groups)) (λ disks per. TellSound m.checkpoint.tables) n.checkpoint.tables n.batch r
 
 pub opened_of : {T E : Type 0} (at : ℕ) (fields : JobFields) (groups : ℕ) (m n : Member) (r : Result T E) → Opens at fields groups m n r → AreOf m.id at n.batch
-opened_of at fields groups m n r opens = let sh = tells_some m.checkpoint.tables in part_of sh.0 m.id at (opening sh.0 m.id fields groups) n.batch r (opens sh.0 sh.1).part
+opened_of at fields groups m n r opens = let sh = tells_some m.checkpoint.tables in part_of m.id r sh.0 at (opening sh.0 m.id fields groups) n.batch (opens sh.0 sh.1).part
 
 module _ {P C : Type 0} (plants : PlantGhosts P) (copies : CopyGhosts C) where
   opened_texts : {T E : Type 0} (x : Parts P C) (at : ℕ) (fields : JobFields) (groups : ℕ) (m n : Member) (r : Result T E) → IsSitting plants copies x m at → Opens at fields groups m n r
@@ -334,7 +304,7 @@ module _ {P C : Type 0} (plants : PlantGhosts P) (copies : CopyGhosts C) where
       let v = plants.view x.plant in
       ∥∥₁_map (here t) (λ has.
       subst (HasTexts (lost_now v) (spools_at v v.now) x.base.config.groups) (sym (run_append x.base (kept_all x.batches) n.batch))
-      ((opens (queue_of x) (s.seat.between.queue t)).texts (s.seat.between.sound t) (lost_now v) (spools_at v v.now) x.base.config.groups has))
+      ((opens (queue_of x) (s.seat.between.queue t)).texts (lost_now v) (spools_at v v.now) x.base.config.groups (s.seat.between.sound t) has))
 
   -- what came of it may be kept, if anything
   pub cuts_opened : {T E : Type 0} (x : Parts P C) (m n : Member) (h : Holder) (fields : JobFields) (groups : ℕ) (r : Result T E) → IsToSit plants copies x m h → Commanded m n → IsJobFields fields → groups ≤ 10000 → Opens h.step fields groups m n r
@@ -345,7 +315,7 @@ module _ {P C : Type 0} (plants : PlantGhosts P) (copies : CopyGhosts C) where
       let seat = s.sits.seat in
       record {
         gives = gives_commanded plants copies x m n did h.step s.sits (opened_of h.step fields groups m n r opens) (omega (arith, order, few)) (λ t. done (queue_of x) (seat_done plants copies x m seat t)) (λ t. sound (seat.between.sound t)) (opened_texts x h.step fields groups m n r s.sits opens here)
-            (λ t. part_begins x.base m.id x.batches x.printed r sh.0 h.step (opening sh.0 m.id fields groups) n.batch (opening_unmarked x.base m.id seat.still.holds.member sh.0 fields groups fit) (opens sh.0 sh.1).part);
+            (λ t. part_begins m.id r sh.0 h.step (opening sh.0 m.id fields groups) n.batch (opens sh.0 sh.1).part x.base x.batches x.printed (opening_unmarked x.base m.id seat.still.holds.member sh.0 fields groups fit));
         bounds = may_keep plants copies x m n did.level s.bounds;
         holder = s.holder ∙ sym did.id;
       }
@@ -354,4 +324,4 @@ module _ {P C : Type 0} (plants : PlantGhosts P) (copies : CopyGhosts C) where
   pub keeps_opened : {T E : Type 0} (x : Parts P C) (m n : Member) (h : Holder) (fields : JobFields) (groups : ℕ) (o : T) → Opens {E = E} h.step fields groups m n (Ok o) → IsToCut plants copies x n h → IsToKeep plants copies x n h
   keeps_opened x m n h fields groups o opens cut =
       let sh = tells_some m.checkpoint.tables in
-      record { gives = cut.gives; some = some_given sh.0 m.id h.step fields groups n.batch (opens sh.0 sh.1).part; bounds = cut.bounds; holder = cut.holder }
+      record { gives = cut.gives; some = rw (opens sh.0 sh.1).part (omega arith); bounds = cut.bounds; holder = cut.holder }

@@ -2,6 +2,7 @@
 use Rattle.std.proofs.Common.{◌≡◌, ℕ, zero, suc, ◌+◌, ◌≤◌, min, Bool, true, false, List, [], ◌∷◌, ◌++◌, length, replicate, All, Option, Some, None, refl, sym, ◌∙◌, ap, subst, arith}
 use Rattle.std.proofs.lemmas.Bool.{eqb-true}
 use Rattle.std.proofs.lemmas.List.Elements.{All-nil, All-cons}
+use Rattle.std.specs.List.{slice_get}
 use Rattle.mas_types.specs.declared.ids.Dev.TheVariants.{Ckpt1, Ckpt2}
 use Rattle.mas_types.specs.declared.ids.MemberId.{MemberId}
 use Rattle.mas_types.specs.declared.journals.Batch.{Batch}
@@ -36,7 +37,7 @@ use Rattle.member_quiet.specs.Whole.{Half, HasUntold, IsAtRest, first_half, queu
 use Rattle.member_quiet.specs.Quiet.{IsQuiet}
 use Rattle.run_turns.specs.Scenes.{scene_of}
 use Rattle.run_opening.specs.Fresh.{AreFresh, AreFreshFrom, IsFresh}
-use Rattle.run_opening.specs.Shows.{AreLarge, AreMembers, BetweenLines, IsBetween, IsMemberAt, IsShown, QuietFor, Shows}
+use Rattle.run_opening.specs.Shows.{AreLarge, BetweenLines, IsBetween, IsMemberAt, IsShown, QuietFor, Shows}
 use Rattle.member_quiet.specs.Standing.{IsOfEarlier, StandsIn}
 use Rattle.run_opening.proofs.ResetLemmas.{none_untold_later}
 
@@ -130,9 +131,15 @@ module _ {P C : Type 0} (plants : PlantGhosts P) (copies : CopyGhosts C) (x : Pa
     };
   }
 
-  members_first : (at : ℕ) (ms : List Member) → 1 ≤ at → AreFreshFrom x.base.config at ms → AreMembers plants copies x at ms
-  members_first at [] some fresh = tt
-  members_first at (m ∷ ms) some fresh = (member_first at m some fresh.0, members_first (at + 1) ms (omega (arith, some)) fresh.1)
+  members_first : (at : ℕ) (ms : List Member) → 1 ≤ at → AreFreshFrom x.base.config at ms → (i : ℕ) (m : Member) → slice_get ms i ≡ Some m → IsMemberAt plants copies x (at + i) m
+  members_first at [] some fresh i m here = absurd (cc)
+  members_first at (n ∷ ms) some fresh zero m here =
+      let same : n ≡ m = cc in
+      let number : at ≡ at + 0 = omega arith in
+      subst (λ (k : ℕ). IsMemberAt plants copies x k m) number (subst (λ (k : Member). IsMemberAt plants copies x at k) same (member_first at n some fresh.0))
+  members_first at (n ∷ ms) some fresh (suc i) m here =
+      let number : at + 1 + i ≡ at + suc i = omega arith in
+      subst (λ (k : ℕ). IsMemberAt plants copies x k m) number (members_first (at + 1) ms (omega (arith, some)) fresh.1 i m here)
 
   first_stands : (c : Option Batch) → c ≡ None → x.placed ≡ false → StandsIn x.batches x.placed x.book c
   first_stands None none unplaced = unplaced

@@ -1,5 +1,6 @@
 -- The shared value and its members between two lines of a script, and the scene that they show.
-use Rattle.std.specs.Prelude.{◌≡◌, ℕ, ◌+◌, ◌≤◌, Bool, true, false, ◌&&◌, List, [], ◌∷◌, ◌++◌, length, All, Option, Some, None}
+use Rattle.std.specs.Prelude.{◌≡◌, ℕ, ◌+◌, ◌≤◌, Bool, true, false, ◌&&◌, List, ◌++◌, length, All, Option, Some, None}
+use Rattle.std.specs.List.{slice_get}
 use Rattle.mas_types.specs.declared.ids.Dev.TheVariants.{Ckpt1, Ckpt2}
 use Rattle.mas_types.specs.declared.ids.MemberId.{MemberId}
 use Rattle.mas_types.specs.declared.journals.Batch.{Batch}
@@ -78,10 +79,9 @@ module _ {P C : Type 0} (plants : PlantGhosts P) (copies : CopyGhosts C) where
     pub id : m.id ≡ record { 0 = at }
     pub up : is_stopped x.book m.id ≡ false → IsMemberUp x m
 
-  -- members from this number on
-  abbrev pub AreMembers : Parts P C → ℕ → List Member → Type 0
-  AreMembers x at [] = Unit {0}
-  AreMembers x at (m ∷ ms) = IsMemberAt x at m × AreMembers x (at + 1) ms
+  -- each is the member of the number of its place
+  abbrev pub AreMembers : Parts P C → List Member → Type 0
+  AreMembers x ms = (i : ℕ) (m : Member) → slice_get ms i ≡ Some m → IsMemberAt x (1 + i) m
 
   -- Between two lines, of which the next has this number. Nothing is reserved. Nothing is in flight or placed either,
   -- and the copies are at rest, unless a stopped member holds the lock. Who holds it otherwise has it by LOCK.
@@ -90,7 +90,7 @@ module _ {P C : Type 0} (plants : PlantGhosts P) (copies : CopyGhosts C) where
     pub settled : AreSettled x.batches (v x).now
     pub quiet : is_left_held x.book ≡ false → IsQuiet plants copies x (page_count x.base.config)
     pub unreserved : x.reserved ≡ None
-    pub members : AreMembers x 1 ms
+    pub members : AreMembers x ms
     pub many : length ms ≡ x.base.config.members
     pub booked : length x.book.members ≡ x.base.config.members
     pub held : x.book.holder.0 ≤ x.base.config.members

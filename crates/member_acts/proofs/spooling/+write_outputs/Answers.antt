@@ -1,4 +1,4 @@
-use Rattle.member_acts.proofs.Names.{refl, ◌≢◌, ◌∙◌, Err, ap, subst, sym, arith, drop, take, ◌≡◌, ℕ, ◌≤◌, List, ◌∷◌, All, length, groups_of_outputs, IsOutSpec, kept_all, run, IsGroupOf, IsHeldBy, spools_at, Rise, StandBelow, AreWritten, All-drop, All-head, All-tail, All-take, err_from_is_err_and, GroupNo, OutSpec, Queue, groups_needed, Parts, parts_of, on_ok, acts_none, acts_on, kept_none, kept_then, still_roomy, sparing_none, behind_long, cause_wider, first_fits, lies_behind, lies_front, rise_behind, rise_front, still_stand, length-take-le}
+use Rattle.member_acts.proofs.Names.{refl, ◌≢◌, ◌∙◌, Err, ap, subst, sym, arith, drop, take, ◌≡◌, ℕ, ◌≤◌, List, ◌∷◌, All, length, groups_of_outputs, IsOutSpec, kept_all, run, IsGroupOf, IsHeldBy, spools_at, Rise, StandBelow, AreWritten, All-drop, All-head, All-tail, All-take, err_from_is_err_and, GroupNo, OutSpec, Queue, groups_needed, Parts, parts_of, on_ok, acts_none, acts_on, kept_none, kept_then, still_roomy, sparing_none, behind_long, cause_by, first_fits, lies_behind, lies_front, rise_behind, rise_front, still_stand, length-take-le}
 use Rattle.queue_effect.proofs.EndLemmas.{no_items}
 use Rattle.queue_effect.proofs.GroupLemmas.{groups_small}
 use Rattle.spool_text.specs.Texts.{packed}
@@ -77,7 +77,7 @@ returns-in_err-write_pages g t c =
       on = record {
         frame = e.frame;
         acts = e.acts;
-        cause = cause_wider {T = Unit {0}} c.args.by.0 x.base.config.groups (take k gs) gs (P.view x.plant) (P.view x.plant) (P.view y.plant) (Err c.in_err-write_pages.field-0.0) (λ v there. lies_front x.base.config.groups v k gs there) (acts_none P.tells c.args.by.0 (P.view x.plant)).goes (sparing_none c.args.by.0 (P.view x.plant)) cause;
+        cause = cause_by {T = Unit {0}} c.args.by.0 x.base.config.groups (take k gs) gs (P.view x.plant) (P.view x.plant) (P.view y.plant) (Err c.in_err-write_pages.field-0.0) (λ v there. lies_front x.base.config.groups v k gs there) (acts_none P.tells c.args.by.0 (P.view x.plant)).goes (sparing_none c.args.by.0 (P.view x.plant)) cause;
         spares = λ told h none. e.spares told h (subst (All (λ (j : GroupNo). h.0 ≢ j.0)) (sym front) (All-take (λ (j : GroupNo). h.0 ≢ j.0) k gs none));
       };
       stand = tt;
@@ -131,7 +131,7 @@ returns g t c =
       on = record {
         frame = w.on.frame ∙ ap (λ (p : Parts _ _). record p { plant = z.plant }) e.frame;
         acts = acts_on P.tells c.args.by.0 (P.view x.plant) (P.view y.plant) (P.view z.plant) e.acts w.on.acts;
-        cause = cause_wider c.args.by.0 x.base.config.groups (drop k gs) gs (P.view x.plant) (P.view y.plant) (P.view z.plant) c.write_outputs.result (λ v there. lies_behind x.base.config.groups v k gs there) e.acts.goes c.in_ok-write_pages.ensures.cause (rw (base, behind) at w.on.cause);
+        cause = cause_by c.args.by.0 x.base.config.groups (drop k gs) gs (P.view x.plant) (P.view y.plant) (P.view z.plant) c.write_outputs.result (λ v there. lies_behind x.base.config.groups v k gs there) e.acts.goes c.in_ok-write_pages.ensures.cause (rw (base, behind) at w.on.cause);
         spares = λ told h none.
             let first = e.spares told h (subst (All (λ (j : GroupNo). h.0 ≢ j.0)) (sym front) (All-take (λ (j : GroupNo). h.0 ≢ j.0) k gs none)) in
             let others = rw base at (w.on.spares told h (subst (All (λ (j : GroupNo). h.0 ≢ j.0)) (sym behind) (All-drop (λ (j : GroupNo). h.0 ≢ j.0) k gs none))) in

@@ -1,4 +1,4 @@
-use Rattle.member_acts.proofs.Names.{◌≡◌, false, ◌∙◌, Err, ap, spools_at, err_from_is_err_and, Parts, none_lost, sparing_then, acts_on, cause_after, kept_quiet, kept_then, all_spooled}
+use Rattle.member_acts.proofs.Names.{◌≡◌, false, ◌∙◌, Err, ap, spools_at, err_from_is_err_and, Parts, none_lost, sparing_then, acts_on, cause_by, kept_quiet, kept_then, all_spooled}
 use Rattle.member_acts.proofs.spooling.write_and_sync.Goals as goal
 
 pub returns-in_err-write_outputs : goal.returns-in_err-write_outputs
@@ -21,7 +21,7 @@ returns-in_err-sync_volumes g c =
       on = record {
         frame = c.sync_volumes.ensures.frame ∙ ap (λ (p : Parts _ _). record p { plant = c.sync_volumes.new.complex.plant }) e.frame;
         acts = acts_on P.tells c.args.by.0 v w u e.acts c.sync_volumes.ensures.acts;
-        cause = cause_after {T = Unit {0}} c.args.by.0 x.base.config.groups c.args.groups.now v w u (Err c.in_err-sync_volumes.field-0.0) e.acts.goes e.cause (rw base at c.in_err-sync_volumes.ensures.cause);
+        cause = cause_by {T = Unit {0}} c.args.by.0 x.base.config.groups c.args.groups.now c.args.groups.now v w u (Err c.in_err-sync_volumes.field-0.0) (λ n there. there) e.acts.goes e.cause (rw base at c.in_err-sync_volumes.ensures.cause);
         spares = λ told h apart. kept_then x.base.config.groups h (spools_at v v.now) (spools_at w w.now) (spools_at u u.now) (e.spares told h apart)
             (kept_quiet x.base.config.groups c.args.groups.now (spools_at w w.now) (spools_at u u.now) (c.sync_volumes.ensures.quiet told) h apart);
       };

@@ -17,9 +17,8 @@ use Rattle.member_steps.proofs.StepLemmas.{if_ok}
 use Rattle.member_decks.specs.Decks.{ends_as, given_in, opening}
 use Rattle.member_decks.specs.Steps.{AreOf}
 use Rattle.member_decks.specs.Taking.{LeaveOut}
-use Rattle.member_decks.proofs.DeckLemmas.{given_of, opened_enough}
+use Rattle.member_decks.proofs.DeckLemmas.{closed_of, given_of, groups_few, opened_enough}
 use Rattle.member_decks.proofs.OpenLemmas.{tells_some}
-use Rattle.member_decks.proofs.PlayLemmas.{closed_of, groups_few}
 use Rattle.step_turns.specs.Decks.{job_opened}
 use Rattle.step_turns.specs.Entries.{closing_reply}
 use Rattle.step_turns.specs.declared.states.State.TheVariants.{Away, Told}

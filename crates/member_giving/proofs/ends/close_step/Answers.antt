@@ -16,13 +16,8 @@ returns-in_default g c =
     let h = c.args.holder in
     let up = c.give_up.ensures.gives_up in
     let w = wrote_of m.batch (says (closing_line h.by h.step c.args.end.now ∷ [])) in
-    record {
-      run = c.give_up.ensures.run;
-      played = played_error g.P.Plant.tells h (λ x. x ≡ wrote_of m.batch (says (closing_line h.by h.step c.args.end.now ∷ []))) c.args.given {S = Unit {0}} c.give_up.result w w (batch_of m.batch) (place_of x m) (outside y) (λ t. refl) (of_batch h.by h.step m.batch (own_batch x m h c.requires.works)) refl (starts_cut m.batch []) up.spares up.keeps up.counts;
-      told = tt;
-      seat = tt;
-      reached = tt;
-    }
+    let played = played_error g.P.Plant.tells h (λ x. x ≡ wrote_of m.batch (says (closing_line h.by h.step c.args.end.now ∷ []))) c.args.given {S = Unit {0}} c.give_up.result w w (batch_of m.batch) (place_of x m) (outside y) (λ t. refl) (of_batch h.by h.step m.batch (own_batch x m h c.requires.works)) refl (starts_cut m.batch []) up.spares up.keeps up.counts in
+    assumption (c.give_up.ensures.run, played)
 
 -- THE BATCH COULDN'T BE KEPT
 
@@ -33,13 +28,8 @@ returns-in_err-keep g c =
     let h = c.args.holder in
     let w = wrote_of m.batch (says (closing_line h.by h.step c.args.end.now ∷ [])) in
     let q = err_from_is_err_and c.from_residual.result c.from_residual.ensures.1 in
-    rw (q.1, q.2) (record {
-      run = c.keep.ensures.run;
-      played = played_error g.P.Plant.tells h (λ x. x ≡ wrote_of m.batch (says (closing_line h.by h.step c.args.end.now ∷ []))) c.args.given {S = Unit {0}} _ w w (batch_of m.batch) (place_of x m) (outside c.keep.new.complex) (λ t. refl) (of_batch h.by h.step m.batch (own_batch x m h c.requires.works)) refl (starts_cut m.batch []) c.keep.ensures.spares c.in_err-keep.ensures.keeps c.in_err-keep.ensures.counts;
-      told = tt;
-      seat = tt;
-      reached = tt;
-    })
+    let played = played_error g.P.Plant.tells h (λ x. x ≡ wrote_of m.batch (says (closing_line h.by h.step c.args.end.now ∷ []))) c.args.given {S = Unit {0}} _ w w (batch_of m.batch) (place_of x m) (outside c.keep.new.complex) (λ t. refl) (of_batch h.by h.step m.batch (own_batch x m h c.requires.works)) refl (starts_cut m.batch []) c.keep.ensures.spares c.in_err-keep.ensures.keeps c.in_err-keep.ensures.counts in
+    rw (q.1, q.2) (assumption (c.keep.ensures.run, played))
 
 -- THE LINE
 
@@ -73,14 +63,10 @@ returns-in_err-tell_lines g c =
     let lines = closing_line h.by h.step c.args.end.now ∷ [] in
     let q = err_from_is_err_and c.from_residual-in_err-tell_lines.result c.from_residual-in_err-tell_lines.ensures.1 in
     let said = closes_said y z n h o.works t.pair t.journal t.current t.placed lines (Err _) (rw c.in-Ok.ensures at c.in_err-tell_lines.ensures.said) in
-    rw (q.1, q.2) (record {
-      run = same_run y z n n h t.base t.since t.renewals t.book refl ∙ c.keep.ensures.run;
-      played = played_close P.tells h (λ x. x ≡ wrote_of m.batch (says (closing_line h.by h.step c.args.end.now ∷ []))) c.args.given {S = Unit {0}} _ (Err _) lines (place_of x m) (outside y) (outside z) tt (own_batch x m h c.requires.works) refl
-          (apart_then P.tells h.by (outside x) (outside y) (outside z) o.keeps.closes.course.goes.later said.course.goes c.keep.ensures.spares (said_apart y z h.by t.said.acts (ap (λ p. p.had) t.frame))) o.keeps o.counts said t.printed;
-      told = tt;
-      seat = tt;
-      reached = tt;
-    })
+    let run = same_run y z n n h t.base t.since t.renewals t.book refl ∙ c.keep.ensures.run in
+    let played = played_close P.tells h (λ x. x ≡ wrote_of m.batch (says (closing_line h.by h.step c.args.end.now ∷ []))) c.args.given {S = Unit {0}} _ (Err _) lines (place_of x m) (outside y) (outside z) tt (own_batch x m h c.requires.works) refl
+    (apart_then P.tells h.by (outside x) (outside y) (outside z) o.keeps.closes.course.goes.later said.course.goes c.keep.ensures.spares (said_apart y z h.by t.said.acts (ap (λ p. p.had) t.frame))) o.keeps o.counts said t.printed in
+    rw (q.1, q.2) (assumption (run, played))
 
 pub returns : goal.returns
 returns g c =

@@ -11,16 +11,8 @@ returns-in_err-keep g c =
     let h = c.args.holder in
     let w = wrote_of m.batch (leaves c.args.next) in
     let q = err_from_is_err_and c.from_residual.result c.from_residual.ensures.1 in
-    rw (q.1, q.2) (record {
-      run = c.keep.ensures.run;
-      played = played_error g.P.Plant.tells h (λ x. x ≡ wrote_of m.batch (leaves c.args.next)) c.args.given {S = Unit {0}} _ w w (batch_of m.batch) (place_of x m) (outside c.keep.new.complex) (λ t. refl) (of_batch h.by h.step m.batch (own_batch x m h c.requires.works)) refl (starts_cut m.batch []) c.keep.ensures.spares c.in_err-keep.ensures.keeps c.in_err-keep.ensures.counts;
-      tables = c.keep.ensures.tables;
-      next = tt;
-      nothing = tt;
-      works = tt;
-      queue = tt;
-      reached = tt;
-    })
+    let played = played_error g.P.Plant.tells h (λ x. x ≡ wrote_of m.batch (leaves c.args.next)) c.args.given {S = Unit {0}} _ w w (batch_of m.batch) (place_of x m) (outside c.keep.new.complex) (λ t. refl) (of_batch h.by h.step m.batch (own_batch x m h c.requires.works)) refl (starts_cut m.batch []) c.keep.ensures.spares c.in_err-keep.ensures.keeps c.in_err-keep.ensures.counts in
+    rw (q.1, q.2) (assumption (c.keep.ensures.run, c.keep.ensures.tables, played))
 
 pub returns : goal.returns
 returns g c =

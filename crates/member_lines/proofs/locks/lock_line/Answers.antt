@@ -3,15 +3,13 @@ use Rattle.mas_types.specs.declared.journals.Batch.{Batch}
 use Rattle.lock_cycle.specs.Books.{Book, IsMember, is_holder}
 use Rattle.mas_complex.specs.Journals.{in_flight}
 use Rattle.mas_complex.specs.Parts.{parts_of}
-use Rattle.step_turns.specs.declared.states.Release.TheVariants.{Keep}
-use Rattle.run_turns.specs.Admissions.{Locks}
 use Rattle.run_turns.proofs.Alone.{holds_it}
 use Rattle.member_lines.specs.Closes.{IsSayer}
 use Rattle.member_steps.specs.Steps.{AreKeptFrom}
 use Rattle.member_steps.proofs.FateLemmas.{kept_from_later}
 use Rattle.member_lines.proofs.Closing.{refused_tested}
 use Rattle.member_lines.proofs.Holding.{says_ok}
-use Rattle.member_lines.proofs.Seating.{its_left, seated, unseated, unseated_frame}
+use Rattle.member_lines.proofs.Seating.{seated, unseated, unseated_frame}
 use Rattle.member_lines.proofs.locks.lock_line.Goals as goal
 
 pub say_refused-requires-clause-says : goal.say_refused-requires-clause-says
@@ -51,9 +49,4 @@ returns-in-Err-clause-frame g c =
 
 pub returns-in-Err-clause-locks : goal.returns-in-Err-clause-locks
 returns-in-Err-clause-locks g c S tested =
-    let x = c.args.complex.now in
-    let m = c.args.member.now in
-    let lock = c.requires.may.holds in
-    let holds : is_holder x.book m.id ≡ true = holds_it m.id lock.some x.book lock.may.holds in
-    inl (unseated g.P.Plant g.C.Copying S m c.args.step Locks says_ok Keep (parts_of x) holds (its_left g.P.Plant g.C.Copying S m c.args.step (parts_of x) tested holds)
-    (parts_of c.take_seat.new.complex) (parts_of c.stop_halted.new.complex) c.in-Err.why c.take_seat.ensures.frame c.stop_halted.ensures c.in-Err.ensures.acts)
+    inl (unseated c.args.member.now.id (parts_of c.args.complex.now) (parts_of c.take_seat.new.complex) (parts_of c.stop_halted.new.complex) g.P.Plant g.C.Copying c.in-Err.why c.take_seat.ensures.frame c.stop_halted.ensures c.in-Err.ensures.acts)

@@ -13,7 +13,7 @@ use Rattle.run_turns.specs.Pieces.{replaced_closing}
 use Rattle.run_turns.specs.Sights.{Renewed}
 use Rattle.member_lines.specs.Closes.{HasClosedBy, failed, holds_at}
 use Rattle.member_lines.specs.Replaces.{FollowsBy, IsTestedAs, left_found}
-use Rattle.member_lines.proofs.Renewing.{closed_as, closing_named, follows_in, renewed_rest, replaces_as, stopped_keeps}
+use Rattle.member_lines.proofs.Renewing.{closed_as, closing_named, ended_keeps, follows_in, renewed_rest, replaces_as, stopped_keeps}
 use Rattle.member_lines.proofs.replacing.replace_and_close.Goals as goal
 
 pub say_and_leave-requires-clause-may : goal.say_and_leave-requires-clause-may
@@ -53,7 +53,8 @@ returns-in-Ok-clause-frame g c =
     let z = c.replace_at_seat.new.complex in
     let y = c.say_and_leave.new.complex in
     follows_in (parts_of x) (parts_of z) (parts_of y)
-    (renewed_rest c.replace_at_seat.result c.args.dev (P.view x.plant).now (P.view z.plant).now (parts_of z) (parts_of x) c.replace_at_seat.ensures.frame) c.say_and_leave.ensures.frame
+    (renewed_rest c.replace_at_seat.result c.args.dev (P.view x.plant).now (P.view z.plant).now (parts_of z) (parts_of x) c.replace_at_seat.ensures.frame)
+    (ended_keeps c.say_and_leave.result c.args.member.now.id (released c.args.holder.grant c.args.holder.hold 0 Told) (parts_of z) (parts_of y) c.replace_at_seat.ensures.seat.still.unreserved c.say_and_leave.ensures.frame)
 
 pub returns-in-Ok-clause-renews : goal.returns-in-Ok-clause-renews
 returns-in-Ok-clause-renews g c S tested =
@@ -76,7 +77,7 @@ returns-in-Ok-clause-renews g c S tested =
       there = parts_of z;
       answer = answer;
       replaced = c.replace_at_seat.ensures;
-      follows = subst (λ (o : Option Renewed). FollowsBy P C o S m.id h.step dev answer (parts_of z) (parts_of y) r) (sym f.1) (
+      follows = subst (λ (o : Option Renewed). FollowsBy P C o S m.id h dev answer (parts_of z) (parts_of y) r) (sym f.1) (
         closed_as P (holds_at m.id h.step (replaced_closing dev f.0) S z.book (released h.grant h.hold 0 Told)) (left_found S m.id h.step dev f.0) (replaces_as S m.id h dev z.book here f.0) m.id (parts_of z) (parts_of y) r said,
         c.say_and_leave.ensures.frame,
       );
@@ -110,5 +111,5 @@ returns-in-Err-clause-renews g c S tested =
       there = parts_of z;
       answer = answer;
       replaced = c.replace_at_seat.ensures;
-      follows = subst (λ (o : Option Renewed). FollowsBy P C o S m.id h.step dev answer (parts_of z) (parts_of y) (failed c.in-Err.why)) (sym ends.0) (ends.1, c.stop_halted.ensures);
+      follows = subst (λ (o : Option Renewed). FollowsBy P C o S m.id h dev answer (parts_of z) (parts_of y) (failed c.in-Err.why)) (sym ends.0) (ends.1, c.stop_halted.ensures);
     }

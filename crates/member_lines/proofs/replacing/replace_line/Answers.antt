@@ -1,22 +1,16 @@
-use Rattle.std.proofs.Common.{List, ◌≡◌, ◌∙◌, ◌++◌, ◌≤◌, ℕ, true, ap, inl, subst, sym}
+use Rattle.std.proofs.Common.{List, ◌∙◌, ◌++◌, ◌≤◌, ℕ, ap, inl, subst, sym}
 use Rattle.mas_types.specs.declared.ids.MemberId.{MemberId}
 use Rattle.mas_types.specs.declared.journals.Batch.{Batch}
 use Rattle.mas_types.specs.declared.queues.Queue.{Queue}
 use Rattle.ckpt_tables.specs.Shape.{page_count}
-use Rattle.lock_cycle.specs.Books.{Book, IsMember, is_holder}
+use Rattle.lock_cycle.specs.Books.{Book, IsMember}
 use Rattle.mas_complex.specs.Journals.{in_flight}
 use Rattle.mas_complex.specs.Parts.{parts_of}
 use Rattle.member_steps.specs.Steps.{AreKeptFrom}
 use Rattle.member_steps.proofs.FateLemmas.{kept_from_later}
-use Rattle.step_turns.specs.declared.states.State.TheVariants.{Told}
-use Rattle.step_turns.specs.Sittings.{released}
-use Rattle.run_turns.specs.Admissions.{Replaces as ReplacesCopy}
-use Rattle.run_turns.specs.Pieces.{replaced_closing}
-use Rattle.run_turns.specs.Sights.{Replaced}
-use Rattle.run_turns.proofs.Alone.{holds_it}
-use Rattle.member_lines.specs.Replaces.{IsTestedAs}
-use Rattle.member_lines.proofs.Renewing.{at_holds, at_unreserved, replaces_as, seats, stopped_keeps, then_replaced, unseated_in}
-use Rattle.member_lines.proofs.Seating.{unseated, unseated_frame}
+use Rattle.member_lines.specs.Replaces.{HasGoneOn, IsTestedAs}
+use Rattle.member_lines.proofs.Renewing.{at_holds, at_unreserved, stopped_keeps, then_replaced, unseated_in}
+use Rattle.member_lines.proofs.Seating.{seats, unseated}
 use Rattle.member_lines.proofs.replacing.replace_line.Goals as goal
 
 pub replace_and_close-requires-clause-may : goal.replace_and_close-requires-clause-may
@@ -59,7 +53,8 @@ returns-in-Ok-clause-replaces g c S tested =
     let dev = c.args.dev in
     let here : IsTestedAs S n.id h dev mid.book =
     subst (λ (i : MemberId). IsTestedAs S i h dev mid.book) (sym c.sit_down.ensures.id) (subst (λ (b : Book). IsTestedAs S m.id h dev b) (sym (ap (λ p. p.book) c.sit_down.ensures.frame)) tested) in
-    seats g.P.Plant g.C.Copying S m n h.step dev (parts_of x) (parts_of mid) (parts_of y) c.sit_down.ensures.frame c.in-Ok.ensures.acts c.in-Ok.ensures.seat c.replace_and_close.result (c.replace_and_close.ensures.renews S here)
+    seats g.P.Plant g.C.Copying (HasGoneOn g.P.Plant g.C.Copying S n h dev) m n (parts_of x) (parts_of mid) (parts_of y) c.sit_down.ensures.frame c.in-Ok.ensures.acts c.in-Ok.ensures.seat c.replace_and_close.result
+    (c.replace_and_close.ensures.renews S here)
 
 pub stop_halted-requires : goal.stop_halted-requires
 stop_halted-requires g c =
@@ -78,18 +73,4 @@ returns-in-Err-clause-frame g c =
 
 pub returns-in-Err-clause-replaces : goal.returns-in-Err-clause-replaces
 returns-in-Err-clause-replaces g c S tested =
-    let P = g.P.Plant in
-    let C = g.C.Copying in
-    let x = c.args.complex.now in
-    let m = c.args.member.now in
-    let h = c.args.holder in
-    let dev = c.args.dev in
-    let mid = c.sit_down.new.complex in
-    let y = c.stop_halted.new.complex in
-    let lock = at_holds P C h.grant (parts_of x) m c.requires.may.at in
-    let holds : is_holder x.book m.id ≡ true = holds_it m.id lock.some x.book lock.may.holds in
-    inl (record {
-      unseated = unseated P C S m h.step (ReplacesCopy dev) (replaced_closing dev Replaced) (released h.grant h.hold 0 Told) (parts_of x) holds (replaces_as S m.id h dev x.book tested Replaced)
-          (parts_of mid) (parts_of y) c.in-Err.why c.sit_down.ensures.frame c.stop_halted.ensures c.in-Err.ensures.acts;
-      frame = unseated_frame m.id (parts_of x) (parts_of mid) (parts_of y) c.in-Err.why c.sit_down.ensures.frame c.stop_halted.ensures;
-    })
+    inl (unseated c.args.member.now.id (parts_of c.args.complex.now) (parts_of c.sit_down.new.complex) (parts_of c.stop_halted.new.complex) g.P.Plant g.C.Copying c.in-Err.why c.sit_down.ensures.frame c.stop_halted.ensures c.in-Err.ensures.acts)

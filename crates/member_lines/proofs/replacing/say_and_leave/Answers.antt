@@ -10,7 +10,6 @@ use Rattle.run_turns.proofs.Alone.{holds_it}
 use Rattle.member_lines.specs.Closes.{holds_at}
 use Rattle.member_lines.proofs.Closing.{refused_tested}
 use Rattle.member_lines.proofs.Holding.{said_so, unsaid_so}
-use Rattle.member_lines.proofs.Renewing.{stopped_keeps}
 use Rattle.member_lines.proofs.replacing.say_and_leave.Goals as goal
 
 pub say_refused-requires-clause-says : goal.say_refused-requires-clause-says
@@ -25,9 +24,9 @@ returns-in-Ok-clause-frame g c =
     let mid = parts_of c.say_refused.new.complex in
     let y = parts_of c.leave_lock.new.complex in
     let h = c.args.holder in
-    let is : y ≡ record x { plant = mid.plant; book = released_by (released h.grant h.hold 0 Told) mid.book c.args.by } =
-    c.leave_lock.ensures ∙ ap (λ (w : Parts _ _). record w { book = released_by (released h.grant h.hold 0 Told) mid.book c.args.by }) c.in-Ok.ensures.frame in
-    is ∙ ap (λ (w : Parts _ _). record x { plant = w.plant; book = w.book }) (sym is)
+    let is : y ≡ record x { plant = mid.plant; book = released_by (released h.grant h.hold 0 Told) x.book c.args.by } =
+    c.leave_lock.ensures ∙ ap (λ (w : Parts _ _). record w { book = released_by (released h.grant h.hold 0 Told) w.book c.args.by }) c.in-Ok.ensures.frame in
+    is ∙ ap (λ (w : Parts _ _). record x { plant = w.plant; book = released_by (released h.grant h.hold 0 Told) x.book c.args.by }) (sym is)
 
 pub returns-in-Ok-clause-closed : goal.returns-in-Ok-clause-closed
 returns-in-Ok-clause-closed g c S =
@@ -44,10 +43,7 @@ returns-in-Ok-clause-closed g c S =
     (c.in-Ok.ensures.closed (record S { book = x.book }) (refused_tested S by by end x.book))
 
 pub returns-in-Err-clause-frame : goal.returns-in-Err-clause-frame
-returns-in-Err-clause-frame g c =
-    let x = parts_of c.args.complex.now in
-    let y = parts_of c.say_refused.new.complex in
-    stopped_keeps c.in-Err.why c.args.by (record x { plant = y.plant }) y c.requires.unreserved c.in-Err.ensures.frame
+returns-in-Err-clause-frame g c = c.in-Err.ensures.frame
 
 pub returns-in-Err-clause-closed : goal.returns-in-Err-clause-closed
 returns-in-Err-clause-closed g c S =

@@ -67,6 +67,7 @@ returns-clause-taken g c =
       taken = took.1;
       base = base;
       since = ap (λ p. p.since) f;
+      renewals = ap (λ p. p.renewals) f;
       reset = subst (λ (n : ℕ). HasResetBy P C (record { by = m.id; step = c.args.step; hold = n; grant = ForStep }) c.args.of mid y (length m.room) c.reset_line.result) c.hold_left.ensures c.reset_line.ensures.reset;
     })
 

@@ -41,22 +41,7 @@ returns g c =
     let lines = c.args.lines.now in
     let e = c.play_batch.ensures in
     let k = c.in_ok-play_batch.ensures in
-    let kept : Kept P C x z m n = record {
-      book = e.book;
-      base = e.base;
-      since = e.since;
-      id = e.id;
-      room = e.room;
-      here = e.behind;
-      tables = e.tables;
-      unreserved = k.unreserved;
-      between = k.between;
-      first = k.rests1;
-      second = k.rests2;
-      noted = k.notes.own c.requires.may.gives.still.noted;
-      goes = k.step.course.goes;
-      leaves = k.step.journal;
-    } in
+    let kept : Kept P C x z m n = assumption (e, k, k.notes.own c.requires.may.gives.still.noted, k.step.course.goes, k.step.journal) in
     let tables = ap (λ (t : Tables). t.order) e.tables in
     record {
       frame = sat_frame x z e.book e.base e.since e.renewals;

@@ -1,6 +1,6 @@
-use Rattle.member_sittings.proofs.Names.{length, ap, refl, subst, Config, AreLow, Journal, parts_of, pair_state, had_as, notes_none, notes_same, between_by, arith}
+use Rattle.member_sittings.proofs.Names.{◌<◌, IsAtRest, first_half, second_half, too_high, length, ap, refl, subst, Config, AreLow, Journal, parts_of, pair_state, had_as, notes_none, notes_same, between_by, arith}
 use Rattle.mas_complex.specs.Past.{values_of}
-use Rattle.member_decks.proofs.KeepLemmas.{copies_none}
+use Rattle.member_steps.proofs.KeepLemmas.{copies_none}
 use Rattle.member_node.proofs.CourseLemmas.{no}
 use Rattle.member_sittings.proofs.SeatLemmas.{Taken, gate_again, seat_frame, taken_seat}
 use Rattle.member_sittings.proofs.Staying.{on_four, settle_copies}
@@ -57,22 +57,13 @@ returns-clause-seats g c =
         notes = notes_same m.id x.had y.had (ap values_of e.had);
       };
       seat = on_four c.primary.result e.rests1 e.rests2 e.room1 e.room2 (λ one two room1 room2.
-          let taken : Taken P C x y m m = record {
-            frame = frame;
-            id = refl;
-            here = still.here;
-            goes = e.settle.course.goes;
-            between = between_by P.tells x y m.batch m.checkpoint e.base batches e.current e.placed e.level s.between;
-            first = rw still.here at one;
-            second = rw still.here at two;
-            noted = had_as P.tells x.had y.had m m (ap values_of e.had) refl refl refl still.noted;
-            room1 = room1;
-            room2 = room2;
-            many = still.many;
-            config = refl;
-            order = omega arith;
-            low = λ t. subst (λ (k : Config). AreLow k (length x.batches) m.checkpoint.tables) still.config (s.low t);
-            high = omega arith;
-          } in
+          let first : IsAtRest P.tells (first_half P C y) m.checkpoint.pages = rw still.here at one in
+          let second : IsAtRest P.tells (second_half P C y) m.checkpoint.pages = rw still.here at two in
+          let between = between_by P.tells x y m.batch m.checkpoint e.base batches e.current e.placed e.level s.between in
+          let noted = had_as P.tells x.had y.had m m (ap values_of e.had) refl refl refl still.noted in
+          let low : P.tells → AreLow m.checkpoint.tables.config (length x.batches) m.checkpoint.tables = λ t. subst (λ (k : Config). AreLow k (length x.batches) m.checkpoint.tables) still.config (s.low t) in
+          let order : m.checkpoint.tables.order < too_high = omega arith in
+          let high : m.checkpoint.level < too_high = omega arith in
+          let taken : Taken P C x y m m = assumption (frame, still.here, still.many, e.settle.course.goes, first, second, between, noted, room1, room2, low, order, high) in
           taken_seat P C x y m m (gate_again P C x m s c.requires.level) taken);
     }

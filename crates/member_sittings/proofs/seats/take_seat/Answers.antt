@@ -31,21 +31,5 @@ returns g c =
     let e = c.take_hold.ensures in
     let k = c.in_ok-take_hold.ensures in
     let frame = seat_frame P C x y e.book e.base e.since (ap (λ (j : Journal). j.batches) e.journal) e.current e.reserved e.printed e.placed e.level e.renewals in
-    let taken : Taken P C x y m n = record {
-      frame = frame;
-      id = e.id;
-      here = k.here;
-      goes = k.acts.course.goes;
-      between = k.between;
-      first = k.rests1;
-      second = k.rests2;
-      noted = k.notes.own c.requires.noted;
-      room1 = k.room1;
-      room2 = k.room2;
-      many = k.many;
-      config = k.config;
-      order = k.order;
-      low = k.low;
-      high = k.high;
-    } in
+    let taken : Taken P C x y m n = assumption (e, k, frame, k.acts.course.goes, k.notes.own c.requires.noted) in
     record { frame = frame; id = e.id; acts = record { on = k.acts; notes = k.notes.others }; seat = taken_seat P C x y m n c.requires taken }

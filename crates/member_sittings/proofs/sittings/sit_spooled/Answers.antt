@@ -1,19 +1,20 @@
-use Rattle.member_sittings.proofs.Names.{◌≡◌, List, [], ◌∷◌, ◌∙◌, refl, sym, ap, subst, arith, ∥∥₁_map, Command, MemberId, Entry, Queue, IsFit, may_give, kept_all, parts_of, HasTexts, lost_now, spools_at, run_append, entry_of, entry_with, only_entry, closing_reply, finishing, lines_by, finished_texts, finishing_fit, finishing_giver, finishing_may, finishing_unmarked, one_named, one_of, Told, deck_end, queue_of, SpoolDeck, deck_found}
+use Rattle.member_sittings.proofs.Names.{◌≡◌, true, false, List, [], ◌∷◌, ◌∙◌, refl, sym, ap, subst, arith, ∥∥₁_map, Command, MemberId, Entry, Queue, IsFit, may_give, kept_all, parts_of, HasTexts, lost_now, spools_at, run_append, entry_of, entry_with, only_entry, closing_reply, finishing, lines_by, finished_texts, finishing_all, one_named, one_of, Told, deck_end, queue_of, SpoolDeck, deck_found}
 use Rattle.member_node.specs.Given.{IsGiver}
+use Rattle.paper_laws.specs.Counts.{is_mark}
 use Rattle.member_sittings.proofs.SeatLemmas.{keeps_one}
 use Rattle.member_sittings.proofs.TurnLemmas.{sits_none, sits_by, spooled_sits}
 use Rattle.member_sittings.specs.Sat.{resumes}
 use Rattle.member_sittings.proofs.sittings.sit_spooled.Goals as goal
 
 pub do_command-requires-clause-command : goal.do_command-requires-clause-command
-do_command-requires-clause-command g c = let d = c.args.deck in subst IsFit (sym c.finishing-command.ensures) (finishing_fit d.lost d.job d.text c.requires.text)
+do_command-requires-clause-command g c = let d = c.args.deck in subst IsFit (sym c.finishing-command.ensures) (finishing_all IsFit d.lost d.job d.text c.requires.text tt)
 
 pub do_command-requires-clause-giver : goal.do_command-requires-clause-giver
 do_command-requires-clause-giver g c =
     let m = c.args.member.now in
     let d = c.args.deck in
     let holds = c.requires.may.sits.seat.still.holds in
-    subst (IsGiver m.id) (sym c.finishing-command.ensures) (finishing_giver d.lost d.job d.text m.id holds.some holds.few)
+    subst (IsGiver m.id) (sym c.finishing-command.ensures) (finishing_all (IsGiver m.id) d.lost d.job d.text (holds.some, holds.few) (holds.some, holds.few))
 
 pub do_command-requires-clause-order : goal.do_command-requires-clause-order
 do_command-requires-clause-order g c = let order = c.requires.may.bounds.order in omega (arith, order)
@@ -57,9 +58,9 @@ close_deck-requires-clause-may g c =
       sound = λ t s may. k.sound s (ap (may_give s.queue m.id) is ∙ may);
     })
     (record {
-      may = sym (finishing_may d.lost d.job d.text x.base m.id) ∙ sits.seat.still.holds.member;
-      fit = finishing_fit d.lost d.job d.text c.requires.text;
-      unmarked = finishing_unmarked d.lost d.job d.text;
+      may = finishing_all (λ (q : Command). may_give x.base m.id q ≡ true) d.lost d.job d.text sits.seat.still.holds.member sits.seat.still.holds.member;
+      fit = finishing_all IsFit d.lost d.job d.text c.requires.text tt;
+      unmarked = finishing_all (λ (q : Command). is_mark q ≡ false) d.lost d.job d.text refl refl;
       texts = λ t. ∥∥₁_map (c.kept_texts.ensures.kept t) (λ has. subst (HasTexts (lost_now v) (spools_at v v.now) x.base.config.groups) (sym (run_append x.base (kept_all x.batches) (entry_of Q m.id h.step last ∷ [])))
           (finished_texts (lost_now v) (spools_at v v.now) x.base.config.groups Q m.id h.step (c.law_of_texts.ensures.told m.checkpoint.tables Q (b.sound t) (b.queue t)) has c.law_of_texts.ensures.texts c.law_of_entered_texts.ensures.enter d.lost d.job d.text (λ none. c.requires.spooled none t)));
     })
