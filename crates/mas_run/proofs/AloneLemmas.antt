@@ -1,5 +1,5 @@
 -- Copies that are left alone aren't both lost.
-use Rattle.mas_run.proofs.Names.{some_of, ◌≡◌, ℕ, ◌+◌, Bool, true, false, not, if◌then◌else◌, List, [], ◌∷◌, Option, Some, None, Ok, Err, refl, sym, ◌∙◌, ap, subst, ◌≢◌, ◌⊎◌, inl, inr, ⊎_elim, ◌-◌, ◌≤◌, ◌==◌, All, drop, Result, arith, eq-eqb, Script, and_from, All-head, All-tail, Dev, Ckpt1, Ckpt2, MemberId, Page, Config, is_member, Book, is_stopped, standing, Ask, Step, IsBy, IsStep, Disk, View, disk_now, Rose, next as next_moment, form_reads, form_room, Admission, admitted, Given, ask_with, given_first, line_with, outcomes_with, play_with, outcomes_if, Cut, Ends, Stops, Scene, scene_of, Outcome, is_up, silent, WasLost, NodeNo, CutsAs, cut_in, is_takeover, loses_then, admitted_at, Here, TakeNone, There, here_after, line_of, loses_after, has_begun, as_found, begins_at, HavePassed, IsRun, LinesBegun, LinesEnded, RunResult, starts, stops, AreLeftAlone, CannotStop, IsLeftAlone, TakesNone, resets_in, IsNotStarted, left_by, Play, no, left_keeps, tried_keeps, Comes, TakeoverCame, comes, IsNext, LineAt, Proceeds}
+use Rattle.mas_run.proofs.Names.{Admission, All, All-head, All-tail, AreLeftAlone, Ask, Book, Bool, CannotStop, Ckpt1, Ckpt2, Comes, Config, Cut, CutsAs, Dev, Disk, Ends, Err, Given, HavePassed, Here, IsBy, IsLeftAlone, IsNext, IsNotStarted, IsRun, IsStep, LineAt, LinesBegun, LinesEnded, List, MemberId, NodeNo, None, Ok, Option, Outcome, Page, Play, Played, Proceeds, Result, Rose, RunResult, Scene, Script, Some, Step, Stops, TakeoverCame, TakesNone, There, View, WasLost, [], admitted, admitted_at, and_from, ap, arith, as_found, ask_with, begins_at, comes, cut_in, disk_now, drop, eq-eqb, failed, false, form_reads, form_room, given_first, has_begun, here_after, if◌then◌else◌, inl, inr, is_member, is_stopped, is_takeover, is_up, left_by, left_keeps, line_of, line_with, loses_after, loses_then, next, next as next_moment, no, other, outcomes_if, outcomes_with, play_with, refl, resets, resets_in, run, silent, some_of, standing, starts, stop, stops, subst, sym, tried_keeps, true, ℕ, ⊎_elim, ◌+◌, ◌-◌, ◌==◌, ◌∙◌, ◌∷◌, ◌≡◌, ◌≢◌, ◌≤◌, ◌⊎◌, by_test, begun_after, ended_with, of_if, Stop, StopIn, Lose}
 use Rattle.script_lang.specs.declared.types.Run.{Run}
 use Rattle.script_input.specs.Script.{read_as}
 use Rattle.script_laws.specs.Laws.{ReadsScripts}
@@ -14,9 +14,8 @@ use Rattle.start_choice.specs.Usable.{HaveSize, IsUsable}
 use Rattle.member_resets.proofs.BookLemmas.{SameStop, other_set, same_calls}
 use Rattle.run_turns.proofs.One.{new_up}
 use Rattle.mas_run.proofs.EachLemmas.{each_line}
-use Rattle.mas_run.proofs.PassedLemmas.{device_is}
+use Rattle.mas_run.proofs.PassedLemmas.{device_is, silent_if}
 use Rattle.mas_types.specs.declared.answers.Status.TheVariants as status
-use Rattle.script_lang.specs.declared.types.Ask.TheVariants as ask
 
 -- A SCRIPT that is read for a run that only formats has no steps: no line of a step may stand in it
 
@@ -43,35 +42,25 @@ StopsIn (Some cut) = cut.cause ≡ Stops
 
 -- a line stops its member
 abbrev StopsBy : Ask → Option Cut → Type 0
-StopsBy what cut = (what ≡ ask.Stop) ⊎ StopsIn (cut_in what cut)
+StopsBy what cut = (what ≡ Stop) ⊎ StopsIn (cut_in what cut)
 
 module _ (by k : MemberId) where
-  -- the two have different places in the book
-  abbrev Apart : Type 0
-  Apart = k.0 - 1 ≢ by.0 - 1
-
   -- a member is stopped exactly if it was
   abbrev Same : Book → Book → Type 0
   Same b c = SameStop by k b c
 
   -- A LINE
 
-  play_same : (play : Play) (count : ℕ) (cut : Option Cut) → (StopsIn cut → Apart) → Same play.book (left_by by cut play count).book
-  play_same play count cut apart = left_keeps by (λ (c : Book). Same play.book c) (same_calls by k play.book) cut
-      (λ c is why b now. other_set by k (apart (subst StopsIn (sym is) why)) b (record (standing b by) { stopped = true }) ∙ now) play count refl
-
-  silent_same : (t : Bool) (S T U : Scene) → Same S.book T.book → Same S.book U.book → Same S.book (if t then silent T else silent U).next.book
-  silent_same true S T U one two = one
-  silent_same false S T U one two = two
-
-  line_stops : (S : Scene) (at : ℕ) (g : Given) (what : Ask) → (StopsBy what g.sight.cut → Apart) → Same S.book (ask_with S by at g what).next.book
-  line_stops S at g ask.Stop apart = silent_same (is_up S by) S _ S (other_set by k (apart (inl refl)) S.book (record (standing S.book by) { stopped = true })) refl
-  line_stops S at g (ask.StopIn what n) apart = silent_same (is_up S by) S _ S refl refl
-  line_stops S at g (ask.Lose dev) apart = refl
+  line_stops : (S : Scene) (at : ℕ) (g : Given) (what : Ask) → (StopsBy what g.sight.cut → (k.0 - 1 ≢ by.0 - 1)) → Same S.book (ask_with S by at g what).next.book
+  line_stops S at g Stop apart = of_if (λ (p : Played). Same S.book p.next.book) (is_up S by) (silent _) (silent S) (λ _. other_set by k (apart (inl refl)) S.book (record (standing S.book by) { stopped = true })) (λ _. refl)
+  line_stops S at g (StopIn what n) apart = of_if (λ (p : Played). Same S.book p.next.book) (is_up S by) (silent _) (silent S) (λ _. refl) (λ _. refl)
+  line_stops S at g (Lose dev) apart = refl
   line_stops S at g another apart =
-      let line_same : (S : Scene) (a : Admission) (g : Given) → (StopsIn g.sight.cut → Apart) → Same S.book (left_by by g.sight.cut (play_with S by a g) (S.counts by)).book =
-      λ S a g apart. play_same (play_with S by a g) (S.counts by) g.sight.cut apart ∙ tried_keeps by (λ (c : Book). Same S.book c) (same_calls by k S.book) a S.book refl in
-      line_same S (admitted S.queue.config S.book by another) g (λ stop. apart (inr stop))
+      let play_same : (play : Play) (cut : Option Cut) → (StopsIn cut → (k.0 - 1 ≢ by.0 - 1)) → Same play.book (left_by by cut play (S.counts by)).book =
+      λ play cut apart. left_keeps by (λ (c : Book). Same play.book c) (same_calls by k play.book) cut
+      (λ c is why b now. other_set by k (apart (subst StopsIn (sym is) why)) b (record (standing b by) { stopped = true }) ∙ now) play (S.counts by) refl in
+      let a = admitted S.queue.config S.book by another in
+      play_same (play_with S by a g) g.sight.cut (λ stop. apart (inr stop)) ∙ tried_keeps by (λ (c : Book). Same S.book c) (same_calls by k S.book) a S.book refl
 
 -- NO LOCK IS TAKEN OVER where no line resets another member that a line before it may have stopped
 
@@ -90,17 +79,12 @@ stop_rose (Err e) by (Some cut) x y so stop = absurd (let both : Stops ≡ Ends 
 
 -- who is stopped by a line is a member
 stops_member : (by : MemberId) (what : Ask) (cut : Option Cut) → IsBy by what → StopsBy what cut → 1 ≤ by.0
-stops_member by (ask.Deck cards) cut is stop = is.0
-stops_member by (ask.Lose dev) cut is (inl same) = absurd (cc)
-stops_member by (ask.Lose dev) cut is (inr stop) = absurd stop
+stops_member by (Lose dev) cut is (inl same) = absurd (cc)
+stops_member by (Lose dev) cut is (inr stop) = absurd stop
 stops_member by _ cut is stop = is.0
 
 -- LINES ONE AFTER ANOTHER, in a run whose plant showed `old` before and `new` after it
 module _ (old new : View) where
-  -- whom no line before can have stopped isn't stopped
-  abbrev AreUp : List Step → Book → Type 0
-  AreUp before b = (k : MemberId) → 1 ≤ k.0 → All (CannotStop old new k) before → is_stopped b k ≡ false
-
   -- a line that can't have stopped a member stops another one, or nobody
   stops_other : (k : MemberId) (s : Step) (answer : Result (Unit {0}) NodeNo) (cut : Option Cut) (x y : View) → 1 ≤ k.0 → IsBy s.by s.what → CannotStop old new k s
       → CutsAs answer s.by (cut_in s.what cut) x y → old.stops s.by.0 ≤ x.stops s.by.0 → y.stops s.by.0 ≤ new.stops s.by.0 → StopsBy s.what cut → k.0 - 1 ≢ s.by.0 - 1
@@ -111,9 +95,9 @@ module _ (old new : View) where
       ⊎_elim (λ other. other (ap (λ (i : ℕ). let m : MemberId = record { 0 = i } in m) number))
       (λ spared. ⊎_elim spared.0 (λ halted. spared.1 (subst (λ (n : ℕ). Rose (old.stops n) (new.stops n)) number (rise halted))) stop) cannot
 
-  -- what is known before a line: of those before it, and of the book
+  -- what is known before a line: of those before it, and of the book, in which who can't have been stopped by them isn't
   abbrev AreSpared : List Step → Here → Type 0
-  AreSpared steps h = (before : List Step) × TakesNone old new before steps × AreUp before h.scene.book × All IsStep steps × ((m : ℕ) → old.stops m ≤ h.view.stops m)
+  AreSpared steps h = (before : List Step) × TakesNone old new before steps × ((k : MemberId) → 1 ≤ k.0 → All (CannotStop old new k) before → is_stopped h.scene.book k ≡ false) × All IsStep steps × ((m : ℕ) → old.stops m ≤ h.view.stops m)
 
   line_takes : (told : Type 0) (h : Here) (g : Given) (s : Step) (steps : List Step) (there : There) → AreSpared (s ∷ steps) h → IsNext told h g s there → Proceeds there.view new
       → (is_takeover (admitted_at (line_of h g s)) ≡ false) × AreSpared steps (here_after h g s there)
@@ -133,37 +117,27 @@ module _ (old new : View) where
         ),
       )
 
--- no line of a run takes the lock over
-run_takes : (told : Type 0) (b : LinesBegun) (e : LinesEnded) (p : HavePassed told b e) (old : View) → ((m : ℕ) → old.stops m ≤ b.view.stops m) → All IsStep b.steps → TakesNone old e.view [] b.steps
-    → TakeNone (scene_of b.from) 1 p.given b.steps
-run_takes told b e p old since fits takes =
-    each_line told (λ (l : LineAt). is_takeover (admitted_at l) ≡ false) (AreSpared old e.view) (stops b e p.result) (line_takes old e.view told) (starts b) p.given b.steps e.many
-    ([], takes, (λ k some none. new_up b.from.config.members b.from.config.hold (k.0 - 1)), fits, since) p.passed
-
 -- LINES THAT DON'T LOSE A COPY
 
 module _ (d : Dev) (n : ℕ) where
-  silent_loses : (t : Bool) (S T : Scene) → loses_then (if t then silent S else silent T).outcome.loses d n ≡ n
-  silent_loses true S T = refl
-  silent_loses false S T = refl
-
-  ask_loses : (S : Scene) (by : MemberId) (at : ℕ) (g : Given) (what : Ask) → what ≢ ask.Lose d → loses_then (ask_with S by at g what).outcome.loses d n ≡ n
-  ask_loses S by at g (ask.Lose dev) other = ap (λ (t : Bool). if t then next_moment n else n) (device_is d dev (λ same. other (ap (λ (x : Dev). ask.Lose x) (sym same))))
-  ask_loses S by at g ask.Stop other = silent_loses (is_up S by) _ _
-  ask_loses S by at g (ask.StopIn fuse k) other = silent_loses (is_up S by) _ _
+  ask_loses : (S : Scene) (by : MemberId) (at : ℕ) (g : Given) (what : Ask) → what ≢ Lose d → loses_then (ask_with S by at g what).outcome.loses d n ≡ n
+  ask_loses S by at g (Lose dev) other = ap (λ (t : Bool). if t then next_moment n else n) (device_is d dev (λ same. other (ap (λ (x : Dev). Lose x) (sym same))))
+  ask_loses S by at g Stop other = ap (λ (p : Played). loses_then p.outcome.loses d n) (silent_if (is_up S by) _ _)
+  ask_loses S by at g (StopIn fuse k) other = ap (λ (p : Played). loses_then p.outcome.loses d n) (silent_if (is_up S by) _ _)
   ask_loses S by at g _ other = refl
 
-lines_lose : (d : Dev) (S : Scene) (at : ℕ) (gs : List Given) (steps : List Step) (n : ℕ) → All (λ (s : Step). s.what ≢ ask.Lose d) steps
+by_goes : (d : Dev) (n : ℕ) (os : List Outcome) (t : Bool) → loses_after d os n ≡ n → loses_after d (outcomes_if t os) n ≡ n
+by_goes d n os true more = more
+by_goes d n os false more = refl
+
+lines_lose : (d : Dev) (S : Scene) (at : ℕ) (gs : List Given) (steps : List Step) (n : ℕ) → All (λ (s : Step). s.what ≢ Lose d) steps
     → loses_after d (outcomes_with S at gs steps) n ≡ n
 lines_lose d S at gs [] n others = refl
 lines_lose d S at gs (s ∷ steps) n others =
     let p = line_with S at (given_first gs) s in
     let os = outcomes_with p.next (at + 1) (drop 1 gs) steps in
-    ap (loses_after d (outcomes_if p.goes_on os)) (ask_loses d n S s.by at (given_first gs) s.what (All-head (λ (x : Step). x.what ≢ ask.Lose d) s steps others))
-    ∙ by_goes os p.goes_on (lines_lose d p.next (at + 1) (drop 1 gs) steps n (All-tail (λ (x : Step). x.what ≢ ask.Lose d) s steps others)) where
-      by_goes : (os : List Outcome) (t : Bool) → loses_after d os n ≡ n → loses_after d (outcomes_if t os) n ≡ n
-      by_goes os true more = more
-      by_goes os false more = refl
+    ap (loses_after d (outcomes_if p.goes_on os)) (ask_loses d n S s.by at (given_first gs) s.what (All-head (λ (x : Step). x.what ≢ Lose d) s steps others))
+    ∙ by_goes d n os p.goes_on (lines_lose d p.next (at + 1) (drop 1 gs) steps n (All-tail (λ (x : Step). x.what ≢ Lose d) s steps others))
 
 -- PAGES FIT THEMSELVES
 
@@ -188,9 +162,6 @@ module _ (dev : Dev) (old new : View) (mark : Mark) where
     unfit_seen (Some bytes) is unfit = let fits_self : (pages : List Page) (room : ℕ) → fits pages pages room ≡ true = λ pages room. let e : (level (bytes_of pages) == level (bytes_of pages)) ≡ true = eq-eqb (level (bytes_of pages)) (level (bytes_of pages)) refl in rw e (same_as_self pages) in
         no (fits pages pages room) (fits_self pages room) (unfit pages (sym is.1 ∙ read) sized usable)
 
-    never_unfit : IsUnfit form_reads dev old new mark room pages → ⊥
-    never_unfit u = unfit_seen u.seen u.is u.unfit
-
 found_reads : (old new : View) (mark : Mark) (found : List ℕ) → IsFound form_reads old new mark found → Reads Ckpt1 old new mark found ⊎ Reads Ckpt2 old new mark found
 found_reads old new mark found f = ⊎_elim (λ b. inl (seen_reads Ckpt1 old new mark found f.one f.seen1 b.0)) (λ b. inr (seen_reads Ckpt2 old new mark found f.two f.seen2 b.0)) f.best
 
@@ -212,13 +183,16 @@ module _ (tells : Type 0) (told : tells) (script : Script) (old : View) (end : R
   new = end.view
 
   unrisen : (cold : Bool) (r : IsRun cold tells script old end) (d : Dev) → IsLeftAlone d script.steps old new → r.first d ≡ old.loses d → WasLost d old new → ⊥
-  unrisen cold r d alone same lost = unlost d script.steps old new alone (counted ∙ r.steps.played.lost_before d ∙ same) lost where
-    counted : new.loses d ≡ r.steps.entry.loses d
-    counted = ⊎_elim (λ none. ap (λ (v : View). v.loses d) none.still)
-        (λ p. p.loses_copies tt (run_takes (Unit {0}) _ _ p old r.steps.played.entered.stops fits takes) d
-        ∙ ap (λ (os : List Outcome). loses_after d os (r.steps.entry.loses d)) p.did_is
-        ∙ lines_lose d _ 1 p.given script.steps (r.steps.entry.loses d) alone.unasked)
-        (r.steps.played.told told)
+  unrisen cold r d alone same lost =
+      let s = r.steps in
+      let b : LinesBegun = begun_after script.steps s.opening s.entry end in
+      let e : LinesEnded = ended_with s.many s.rest s.renewals end in
+      let counted : new.loses d ≡ s.entry.loses d = ⊎_elim (λ none. ap (λ (v : View). v.loses d) none.still)
+      (λ (p : HavePassed (Unit {0}) b e). p.loses_copies tt (each_line (Unit {0}) (λ (l : LineAt). is_takeover (admitted_at l) ≡ false) (AreSpared old new) (stops b e p.result) (line_takes old new (Unit {0})) (starts b) p.given script.steps s.many
+      ([], takes, (λ k some none. new_up b.from.config.members b.from.config.hold (k.0 - 1)), fits, s.played.entered.stops) p.passed) d
+      ∙ ap (λ (os : List Outcome). loses_after d os (s.entry.loses d)) p.did_is
+      ∙ lines_lose d _ 1 p.given script.steps (s.entry.loses d) alone.unasked) (s.played.told told) in
+      unlost d script.steps old new alone (counted ∙ s.played.lost_before d ∙ same) lost
 
   -- the copy that a warm run finds alone has its pages, and stays
   module _ (r : IsRun false tells script old end) where
@@ -228,7 +202,7 @@ module _ (tells : Type 0) (told : tells) (script : Script) (old : View) (end : R
     stayed : (dev : Dev) → IsLeftAlone dev script.steps old new → Reads dev old (as_found r.lost new) (begins_at end.since r.first) (bytes_of q.pages)
         → (r.first dev ≡ old.loses dev) ⊎ IsUnfit form_reads dev old (as_found r.lost new) (begins_at end.since r.first) (form_room (disk_now old dev).bytes) q.pages → WasLost dev old new → ⊥
     stayed dev alone reads kept lost = ⊎_elim (λ e. unrisen false r dev alone e lost)
-        (λ u. never_unfit dev old (as_found r.lost new) (begins_at end.since r.first) (form_room (disk_now old dev).bytes) q.pages q.sized (q.tables, q.are) alone.failed reads.1 u) kept
+        (λ u. unfit_seen dev old (as_found r.lost new) (begins_at end.since r.first) (form_room (disk_now old dev).bytes) q.pages q.sized (q.tables, q.are) alone.failed reads.1 u.seen u.is u.unfit) kept
 
     warm_alone : AreLeftAlone script.steps old new → WasLost Ckpt1 old new → WasLost Ckpt2 old new → ⊥
     warm_alone (inl (one, (inl two))) lost1 lost2 = ⊎_elim (λ e. unrisen false r Ckpt1 one e lost1) (λ e. unrisen false r Ckpt2 two e lost2) q.one
@@ -240,10 +214,8 @@ module _ (tells : Type 0) (told : tells) (script : Script) (old : View) (end : R
   -- what is said of every run, whether it has begun or not
   pub not_both : (cold : Bool) → AreLeftAlone script.steps old new → (cold ≡ false → has_begun end.base ≡ false → IsNotStarted tells status.BothLost old new) → (cold ≡ true → has_begun end.base ≡ false → (d : Dev) → new.loses d ≡ old.loses d)
       → (has_begun end.base ≡ true → IsRun cold tells script old end) → WasLost Ckpt1 old new → WasLost Ckpt2 old new → ⊥
-  not_both cold alone unstarted kept run lost1 lost2 = by_begun cold (has_begun end.base) unstarted kept run refl where
-    by_begun : (c begun : Bool) → (c ≡ false → has_begun end.base ≡ false → IsNotStarted tells status.BothLost old new) → (c ≡ true → has_begun end.base ≡ false → (d : Dev) → new.loses d ≡ old.loses d)
-        → (has_begun end.base ≡ true → IsRun c tells script old end) → has_begun end.base ≡ begun → ⊥
-    by_begun true true not keep has e = let r = has e in ⊎_elim (λ a. unrisen true r Ckpt1 a.0 (r.begun.before Ckpt1) lost1) (λ a. unrisen true r Ckpt2 a.0 (r.begun.before Ckpt2) lost2) alone
-    by_begun false true not keep has e = warm_alone (has e) alone lost1 lost2
-    by_begun true false not keep has e = ⊎_elim (λ a. unlost Ckpt1 script.steps old new a.0 (keep refl e Ckpt1) lost1) (λ a. unlost Ckpt2 script.steps old new a.0 (keep refl e Ckpt2) lost2) alone
-    by_begun false false not keep has e = unstarted_alone script.steps old new alone (not refl e).0.failed
+  not_both true alone unstarted kept run lost1 lost2 = by_test (has_begun end.base)
+      (λ e. let r = run e in ⊎_elim (λ a. unrisen true r Ckpt1 a.0 (r.begun.before Ckpt1) lost1) (λ a. unrisen true r Ckpt2 a.0 (r.begun.before Ckpt2) lost2) alone)
+      (λ e. ⊎_elim (λ a. unlost Ckpt1 script.steps old new a.0 (kept refl e Ckpt1) lost1) (λ a. unlost Ckpt2 script.steps old new a.0 (kept refl e Ckpt2) lost2) alone)
+  not_both false alone unstarted kept run lost1 lost2 =
+      by_test (has_begun end.base) (λ e. warm_alone (run e) alone lost1 lost2) (λ e. unstarted_alone script.steps old new alone (unstarted refl e).0.failed)

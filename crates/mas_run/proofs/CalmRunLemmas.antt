@@ -1,5 +1,5 @@
 -- The lines of a run in which neither a volume nor a printer failed show what they show where nothing is found lost.
-use Rattle.mas_run.proofs.Names.{Line as Node, ◌≡◌, ◌⊎◌, inl, inr, ℕ, ◌+◌, List, [], ◌∷◌, drop, Option, Some, None, Result, Ok, Err, refl, sym, subst, arith, map, take, All, ◌∙◌, ap, zero, suc, if◌then◌else◌, Bool, true, false, ◌++◌, get_or, ◌≢◌, length, MemberId, Step, View, NodeNo, Cut, Ends, Sight, clear, Halt, Writing, Given, RightIf, given_first, ArePiecesOf, IsAskRight, flight_met, line_with, queue_met, sights_of, LineAt, CutsAs, cut_of, IfOfMember, IsHonest, IsHonestAs, starts, stops, Here, There, line_of, IsNext, All-head, All-tail, All-weaker, Spool, Ask, Disk, Printer, Rose, whole_pieces, IsFoundAt, Wait, waits_in, printed_found, read_found, FindsJob, FindsOutput, FindsWritten, Admission, admitted, Plays, Piece, is_locked, pieces_found, Play, holder_of, pieces_of, play_of, piece_at, piece_of, pieces_from, unless_told, Scene, scene_of, Armed, flying_in, kept_in, count_then, Played, Outcome, cause_of, flight_then, is_up, played, played_as, played_ask, steps_said_by as said_by, silent, stopped_lines, ask_right, Proceeds, proceeds_none, Entry, Queue, run, after_stop, Finds, task_most, holder_then, calm, examples_text_of as text_of, with_text, on_line, Found, Fresh, Away, Told, Left, left_by, adds, adds_part, stopped_by, Counts, outcomes_from, outcomes_if, GroupNo, Text, Read, IsReadAs, IsSpoolLost, all_entries, Sitting, sit, nothing_found, PrintLines, ReadText, SpoolDeck, SpoolOutputs, Holder, State, job_at, output_at, false_from_ne_true, counted, once_found, outcomes_with, with_count, Part}
+use Rattle.mas_run.proofs.Names.{of_if, Line as Node, ◌≡◌, ◌⊎◌, inl, inr, ℕ, ◌+◌, List, [], ◌∷◌, drop, Option, Some, None, Result, Ok, Err, refl, sym, subst, arith, map, take, All, ◌∙◌, ap, zero, suc, if◌then◌else◌, Bool, true, false, ◌++◌, get_or, ◌≢◌, length, MemberId, Step, View, NodeNo, Cut, Ends, Sight, clear, Halt, Writing, Given, RightIf, given_first, ArePiecesOf, IsAskRight, flight_met, line_with, queue_met, sights_of, LineAt, CutsAs, cut_of, IfOfMember, IsHonest, IsHonestAs, starts, stops, Here, There, line_of, IsNext, All-head, All-tail, All-weaker, Spool, Ask, Disk, Printer, Rose, whole_pieces, IsFoundAt, Wait, waits_in, printed_found, read_found, FindsOutput, FindsWritten, Admission, admitted, Plays, Piece, is_locked, pieces_found, Play, holder_of, pieces_of, play_of, piece_at, piece_of, pieces_from, unless_told, Scene, scene_of, Armed, flying_in, kept_in, count_then, Played, Outcome, cause_of, flight_then, is_up, played, played_as, steps_said_by as said_by, silent, stopped_lines, Proceeds, proceeds_none, Entry, Queue, run, after_stop, Finds, task_most, holder_then, calm, examples_text_of as text_of, with_text, on_line, Found, Fresh, Away, Told, Left, left_by, adds, adds_part, stopped_by, Counts, outcomes_from, outcomes_if, GroupNo, Text, Read, IsReadAs, IsSpoolLost, all_entries, Sitting, sit, nothing_found, PrintLines, ReadText, SpoolDeck, SpoolOutputs, Holder, State, output_at, false_from_ne_true, counted, once_found, outcomes_with, with_count, Part, left, played_with, played_at, Stop, StopIn, Lose}
 use Rattle.mas_run.specs.Unstopped.{IsWhole, PlaysOn}
 use Rattle.mas_run.specs.Passed.{AreEach}
 use Rattle.mas_run.proofs.AlikeLemmas.{Alike, LastPiece, MorePieces, NoPieces, alike_same, left_alike}
@@ -12,17 +12,13 @@ use Rattle.mas_types.specs.declared.ids.JobNo.{JobNo}
 use Rattle.mas_types.specs.declared.ids.OutNo.{OutNo}
 use Rattle.mas_types.specs.declared.jobs.Job.{Job}
 use Rattle.mas_types.specs.declared.jobs.Output.{Output}
-use Rattle.mas_types.specs.declared.jobs.Text.TheVariants.{Gone, Whole}
 use Rattle.member_work.specs.Looks.{as_it_is}
 use Rattle.member_sittings.specs.Asides.{deck_found}
-use Rattle.script_lang.specs.declared.types.Ask.TheVariants as ask
 use Rattle.job_outcome.specs.declared.outcomes.Read.TheVariants as read
 
-abbrev WholeOr : Option Cut → Type 0
-WholeOr cut = (cut ≡ None) ⊎ ((c : Cut) × (cut ≡ Some c) × (c.cause ≡ Ends))
-
 -- a count that is 0 at the end hasn't risen
-whole_cut : (answer : Result (Unit {0}) NodeNo) (by : MemberId) (cut : Option Cut) (old new : View) → new.stops by.0 ≡ 0 → CutsAs answer by cut old new → WholeOr cut
+whole_cut : (answer : Result (Unit {0}) NodeNo) (by : MemberId) (cut : Option Cut) (old new : View) → new.stops by.0 ≡ 0 → CutsAs answer by cut old new
+    → (cut ≡ None) ⊎ ((c : Cut) × (cut ≡ Some c) × (c.cause ≡ Ends))
 whole_cut answer by None old new none so = inl refl
 whole_cut (Ok done) by (Some cut) old new none so = absurd (let rose = so.2 in omega (arith, none, rose))
 whole_cut (Err e) by (Some cut) old new none so = inr (cut, refl, so.0)
@@ -39,8 +35,7 @@ plays_on told m b e p none = each_line told (λ (l : LineAt). l.step.by.0 ≡ m 
 -- WHAT WAS FOUND
 
 same_text : (text : Text) → as_it_is text ≡ text_of text
-same_text (Whole lines) = refl
-same_text (Gone group count) = refl
+same_text _ = refl
 
 module _ (per : ℕ) (by : MemberId) (old new : View) (volumes : (n : ℕ) → Rose (old.faults (Disk (Spool n))) (new.faults (Disk (Spool n))) → ⊥)
     (printer : Rose (old.faults (Printer by)) (new.faults (Printer by)) → ⊥) where
@@ -62,12 +57,10 @@ module _ (per : ℕ) (by : MemberId) (old new : View) (volumes : (n : ℕ) → R
       ∙ ap read_found (read_calm is.output.text _ found.read is.as_had)
       ∙ sym (ap (λ (p : Option Output). option_map_or (λ (o : Output). with_text o.text) p nothing_found) is.there)
 
-  job_calm : (Q : Queue) (n : JobNo) (found : Found) → FindsJob per Q n found old new → found ≡ option_map_or (λ (j : Job). with_text j.text) (job_at Q n) nothing_found
-  job_calm Q n found is = is.only ∙ ap read_found (read_calm is.job.text _ found.read is.as_had) ∙ sym (ap (λ (o : Option Job). option_map_or (λ (j : Job). with_text j.text) o nothing_found) is.there)
-
   found_calm : (finds : Finds) (Q : Queue) (s : State) → IsFoundAt per by old new Q s (finds Q s) → finds Q s ≡ calm_but finds Q s
   found_calm finds Q (Away (SpoolDeck n text)) is = written_calm _ _ is
-  found_calm finds Q (Away (ReadText runs n fields p)) is = job_calm Q n _ is
+  found_calm finds Q (Away (ReadText runs n fields p)) is =
+      is.only ∙ ap read_found (read_calm is.job.text _ _ is.as_had) ∙ sym (ap (λ (o : Option Job). option_map_or (λ (j : Job). with_text j.text) o nothing_found) is.there)
   found_calm finds Q (Away (SpoolOutputs n specs p)) is = written_calm _ _ is
   found_calm finds Q (Away (PrintLines n i last p)) is = output_calm Q n i _ is
   found_calm finds Q (Away _) is = refl
@@ -147,80 +140,51 @@ IsCalmLine S by at sight a =
     let p = play_of S by at sight a in
     All (IsCalm sight) (waits_in (take (whole_pieces sight.cut p.pieces) p.pieces) p.queue)
 
-abbrev IsCalmAsk : Scene → MemberId → ℕ → Sight → Ask → Type 0
-IsCalmAsk S by at sight what = IfOfMember what (IsCalmLine S by at sight (admitted S.queue.config S.book by what))
-
 module _ (S : Scene) (c : Counts) (armed : List Armed) (by : MemberId) (at : ℕ) (sight : Sight) where
-  abbrev T : Scene
-  T = but_prints S c armed
-
   -- THE PIECES
 
-  pieces_alike : (n : ℕ) (Q : Queue) (a : Admission) → All (IsCalm sight) (waits_in (take n (pieces_of S by at sight Q a)) Q) → AreAlike n (pieces_of S by at sight Q a) (pieces_of T by at (calmed sight) Q a)
+  pieces_alike : (n : ℕ) (Q : Queue) (a : Admission) → All (IsCalm sight) (waits_in (take n (pieces_of S by at sight Q a)) Q) → AreAlike n (pieces_of S by at sight Q a) (pieces_of (but_prints S c armed) by at (calmed sight) Q a)
   pieces_alike n Q (Plays task) calms = from_alike sight (task_most task) n (S.counts by) (c by) Q (holder_of S by at (Plays task)) (Fresh task) refl calms
   pieces_alike n Q another calms = alike_same SameSitting (λ p. refl) n (pieces_of S by at sight Q another)
 
   -- A LINE OF A MEMBER
 
-  abbrev here : Admission → Play
-  here a = play_of S by at sight a
-
-  abbrev there : Admission → Play
-  there a = play_of T by at (calmed sight) a
-
-  play_alike : (a : Admission) → IsCalmLine S by at sight a → AreAlike (whole_pieces sight.cut (here a).pieces) (here a).pieces (there a).pieces
+  play_alike : (a : Admission) → IsCalmLine S by at sight a → let ps = (play_of S by at sight a).pieces in AreAlike (whole_pieces sight.cut ps) ps (play_of (but_prints S c armed) by at (calmed sight) a).pieces
   play_alike (Plays task) calms = found_alike S.flight calms where
     found_alike : (flight : Option (List Entry)) → let ps = once_found flight (pieces_of S by at sight S.queue (Plays task)) in All (IsCalm sight) (waits_in (take (whole_pieces sight.cut ps) ps) S.queue)
-        → AreAlike (whole_pieces sight.cut ps) ps (once_found flight (pieces_of T by at (calmed sight) S.queue (Plays task)))
+        → AreAlike (whole_pieces sight.cut ps) ps (once_found flight (pieces_of (but_prints S c armed) by at (calmed sight) S.queue (Plays task)))
     found_alike None calms = pieces_alike _ S.queue (Plays task) calms
     found_alike (Some es) calms = NoPieces
-  play_alike another calms = alike_same SameSitting (λ p. refl) _ (here another).pieces
+  play_alike another calms = alike_same SameSitting (λ p. refl) _ (play_of S by at sight another).pieces
 
   -- what a line with this play leaves
-  as_same : (a : Admission) → IsCalmLine S by at sight a → ShowSame (played_as S by at sight a) (played_as T by at (calmed sight) a)
+  as_same : (a : Admission) → IsCalmLine S by at sight a → ShowSame (played_as S by at sight a) (played_as (but_prints S c armed) by at (calmed sight) a)
   as_same a calms =
-      let play : Play = here a in
-      let left : Left = left_by by sight.cut (there a) (c by) in
-      let e : bare by (left_by by sight.cut play (S.counts by)) ≡ bare by left = left_bare by sight.cut play (there a).pieces (S.counts by) (c by) (play_alike a calms) in
+      let play : Play = play_of S by at sight a in
+      let other : Play = play_of (but_prints S c armed) by at (calmed sight) a in
+      let left : Left = left_by by sight.cut other (c by) in
+      let e : bare by (left_by by sight.cut play (S.counts by)) ≡ bare by left = left_bare by sight.cut play other.pieces (S.counts by) (c by) (play_alike a calms) in
       record {
         show = ap (λ (l : Left). (l.batches, map (said_by play.sayer) l.lines ++ stopped_lines by at (cause_of sight.cut))) e;
         goes = refl;
         counts = with_count by left.count c;
         armed = counted by left.prints armed;
-        next = ap (λ (l : Left). let N : Scene = record {
-          queue = run play.queue (kept_in l.batches);
-          book = l.book;
-          flight = flight_then (flying_in l.batches) play.flight;
-          counts = with_count by left.count c;
-          armed = counted by left.prints armed;
-        } in N) (sym e);
+        next = ap (λ (l : Left). record (but_prints S (with_count by left.count c) (counted by left.prints armed)) { queue = run play.queue (kept_in l.batches); book = l.book; flight = flight_then (flying_in l.batches) play.flight }) (sym e);
       }
 
-  -- ANY LINE
-
-  -- of a member that is up
-  up_same : (up : Bool) (N : Scene) (more : List Armed) → ShowSame (if up then silent N else silent S) (if up then silent (but_prints N c more) else silent T)
+  -- a line of a member that is up
+  up_same : (up : Bool) (N : Scene) (more : List Armed) → ShowSame (if up then silent N else silent S) (if up then silent (but_prints N c more) else silent (but_prints S c armed))
   up_same true N more = record { show = refl; goes = refl; counts = c; armed = more; next = refl }
   up_same false N more = record { show = refl; goes = refl; counts = c; armed = armed; next = refl }
 
-  ask_same : (what : Ask) → IsCalmAsk S by at sight what → ShowSame (played_ask S by at sight what) (played_ask T by at (calmed sight) what)
-  ask_same ask.Stop calms = up_same (is_up S by) (record S { book = after_stop S.book by }) armed
-  ask_same (ask.StopIn fuse n) calms = let a : Armed = record { member = by; fuse = fuse; left = n } in up_same (is_up S by) (record S { armed = S.armed ++ a ∷ [] }) (armed ++ a ∷ [])
-  ask_same (ask.Lose dev) calms = record { show = refl; goes = refl; counts = c; armed = armed; next = refl }
-  ask_same another calms = as_same (admitted S.queue.config S.book by another) calms
+-- LINES, each of which shows the same that was played, however much was printed before
 
--- LINES, each of which was calm that was played, with the pieces that its queue gives
-
-abbrev IsCalmAt : LineAt → Type 0
-IsCalmAt l = IsAskRight l.scene l.step.by l.number l.given l.step.what × IsCalmAsk l.scene l.step.by l.number l.given.sight l.step.what
-
-one_found : (line : Bool) (found : Found) → (if line then found else found) ≡ found
-one_found true found = refl
-one_found false found = refl
+abbrev IsShownSame : LineAt → Type 0
+IsShownSame l = (c : Counts) (armed : List Armed) → ShowSame (played_at l) (played (but_prints l.scene c armed) l.number (calmed l.given.sight) l.step)
 
 -- what is calm already stays
 first_sight : (gs : List Given) → get_or (map calmed (sights_of gs)) 0 clear ≡ calmed (given_first gs).sight
-first_sight [] = let calm_stays : calm_but calm ≡ calm = λ i Q s. one_found (on_line s) (calm Q s) i in ap (λ (finds : Finds). record clear { finds = finds }) (sym calm_stays)
+first_sight [] = let calm_stays : calm_but calm ≡ calm = λ i Q s. of_if (λ (f : Found). f ≡ calm Q s) (on_line s) (calm Q s) (calm Q s) (λ is. refl) (λ is. refl) i in ap (λ (finds : Finds). record clear { finds = finds }) (sym calm_stays)
 first_sight (g ∷ gs) = refl
 
 rest_sights : (gs : List Given) → drop 1 (map calmed (sights_of gs)) ≡ map calmed (sights_of (drop 1 gs))
@@ -231,25 +195,15 @@ if_same : (b : Bool) {R : Type 0} (os qs : List Outcome) → RightIf b R → (R 
 if_same true os qs right same = same right
 if_same false os qs right same = refl
 
-lines_same : (gs : List Given) (steps : List Step) (S : Scene) (c : Counts) (armed : List Armed) (at : ℕ) → AreEach IsCalmAt S at gs steps
+lines_same : (gs : List Given) (steps : List Step) (S : Scene) (c : Counts) (armed : List Armed) (at : ℕ) → AreEach IsShownSame S at gs steps
     → map shown (outcomes_with S at gs steps) ≡ map shown (outcomes_from (but_prints S c armed) at (map calmed (sights_of gs)) steps)
 lines_same gs [] S c armed at calms = refl
 lines_same gs (step ∷ steps) S c armed at calms =
-    let g = given_first gs in
-    let p = line_with S at g step in
-    let q = played (but_prints S c armed) at (calmed g.sight) step in
-    let same : ShowSame p q = subst (λ (r : Played). ShowSame r q) (sym (ask_right S step.by at g step.what calms.0.0)) (ask_same S c armed step.by at g.sight step.what calms.0.1) in
-    let rest = drop 1 gs in
-    let sights = map calmed (sights_of rest) in
-    ap (λ (o : Shown). o ∷ map shown (outcomes_if p.goes_on (outcomes_with p.next (at + 1) rest steps))) same.show
-    ∙ ap (λ (os : List Shown). shown q.outcome ∷ os)
-    (if_same p.goes_on (outcomes_with p.next (at + 1) rest steps) (outcomes_from (but_prints p.next same.counts same.armed) (at + 1) sights steps) calms.1
-    (λ more. lines_same rest steps p.next same.counts same.armed (at + 1) more))
-    ∙ ap (λ (N : Scene). shown q.outcome ∷ map shown (outcomes_if p.goes_on (outcomes_from N (at + 1) sights steps))) (sym same.next)
-    ∙ ap (λ (b : Bool). shown q.outcome ∷ map shown (outcomes_if b (outcomes_from q.next (at + 1) sights steps))) same.goes
-    ∙ ap (λ (ss : List Sight). shown q.outcome ∷ map shown (outcomes_if q.goes_on (outcomes_from q.next (at + 1) ss steps))) (sym (rest_sights gs))
-    ∙ ap (λ (x : Sight). let r = played (but_prints S c armed) at x step in shown r.outcome ∷ map shown (outcomes_if r.goes_on (outcomes_from r.next (at + 1) (drop 1 (map calmed (sights_of gs))) steps)))
-    (sym (first_sight gs))
+    let p = line_with S at (given_first gs) step in
+    let same : ShowSame p (played (but_prints S c armed) at (get_or (map calmed (sights_of gs)) 0 clear) step) = subst (λ (x : Sight). ShowSame p (played (but_prints S c armed) at x step)) (sym (first_sight gs)) (calms.0 c armed) in
+    rw (rest_sights gs, same.next, ← same.show, ← same.goes)
+    (ap (λ (os : List Shown). shown p.outcome ∷ os) (if_same p.goes_on (outcomes_with p.next (at + 1) (drop 1 gs) steps) (outcomes_from (but_prints p.next same.counts same.armed) (at + 1) (map calmed (sights_of (drop 1 gs))) steps) calms.1
+    (λ more. lines_same (drop 1 gs) steps p.next same.counts same.armed (at + 1) more)))
 
 -- what didn't fail in a run didn't fail in a part of it
 none_within : (steps : List Step) (old mid new late : View) → Proceeds old mid → Proceeds new late → NoneFailed steps old late → NoneFailed steps mid new
@@ -266,31 +220,32 @@ module _ (S : Scene) (by : MemberId) (at : ℕ) (g : Given) (old new : View) (vo
   abbrev line : Ask → LineAt
   line what = record { scene = S; number = at; step = record { by = by; what = what }; given = g }
 
-  calm_as : (what : Ask) (a : Admission) → ArePiecesOf S by at a g → IsHonestAs (line what) a g.sight.cut old new → IsCalmLine S by at g.sight a
-  calm_as what a right honest =
+  as_shown : (what : Ask) (a : Admission) → ArePiecesOf S by at a g → IsHonestAs (line what) a g.sight.cut old new → (c : Counts) (armed : List Armed)
+      → ShowSame (played_with S by at a g) (played_as (but_prints S c armed) by at (calmed g.sight) a)
+  as_shown what a right honest c armed =
       let Q = queue_met S a g.sight in
       let finds = g.sight.finds in
-      All-weaker (λ (w : Wait). IsFoundAt S.queue.config.groups by old new w.queue w.state (finds w.queue w.state)) (IsCalm g.sight)
+      subst (λ (p : Played). ShowSame p (played_as (but_prints S c armed) by at (calmed g.sight) a)) (sym (ap (λ (ps : List Piece). played_with S by at a (record { sight = g.sight; pieces = ps })) right))
+      (as_same S c armed by at g.sight a (All-weaker (λ (w : Wait). IsFoundAt S.queue.config.groups by old new w.queue w.state (finds w.queue w.state)) (IsCalm g.sight)
       (λ w is. found_calm S.queue.config.groups by old new volumes printer finds w.queue w.state is) _
       (subst (λ (qs : List Piece). All (λ (w : Wait). IsFoundAt S.queue.config.groups by old new w.queue w.state (finds w.queue w.state)) (waits_in (take (whole_pieces g.sight.cut qs) qs) Q))
-      (ap (λ (ps : List Piece). pieces_found (is_locked a) (flight_met S a g.sight) ps) right) honest)
+      (ap (λ (ps : List Piece). pieces_found (is_locked a) (flight_met S a g.sight) ps) right) honest)))
 
-  calm_ask : (what : Ask) → IsAskRight S by at g what → IfOfMember what (IsHonest (line what) old new) → IsCalmAsk S by at g.sight what
-  calm_ask ask.Stop right honest = tt
-  calm_ask (ask.StopIn fuse n) right honest = tt
-  calm_ask (ask.Lose dev) right honest = tt
-  calm_ask another right honest = calm_as another (admitted S.queue.config S.book by another) right honest
+  ask_shown : (what : Ask) → IsAskRight S by at g what → IfOfMember what (IsHonest (line what) old new) → IsShownSame (line what)
+  ask_shown Stop right honest c armed = up_same S c armed by at g.sight (is_up S by) (record S { book = after_stop S.book by }) armed
+  ask_shown (StopIn fuse n) right honest c armed = let a : Armed = record { member = by; fuse = fuse; left = n } in up_same S c armed by at g.sight (is_up S by) (record S { armed = S.armed ++ a ∷ [] }) (armed ++ a ∷ [])
+  ask_shown (Lose dev) right honest c armed = record { show = refl; goes = refl; counts = c; armed = armed; next = refl }
+  ask_shown another right honest c armed = as_shown another (admitted S.queue.config S.book by another) right honest c armed
 
 -- LINES
 
 calm_line : (last : View) (h : Here) (g : Given) (step : Step) (steps : List Step) (there : There) → NoneFailed (step ∷ steps) h.view last → IsNext (Unit {0}) h g step there → Proceeds there.view last
-    → IsCalmAt (line_of h g step) × NoneFailed steps there.view last
+    → IsShownSame (line_of h g step) × NoneFailed steps there.view last
 calm_line last h g step steps there none next goes =
     let ones = λ (old new : View) (s : Step). Rose (old.faults (Printer s.by)) (new.faults (Printer s.by)) → ⊥ in
     let here = none_within (step ∷ steps) h.view h.view there.view last (proceeds_none h.view) goes none in
-    let later = none_within (step ∷ steps) h.view there.view last last next.passed.goes (proceeds_none last) none in
-    let right = next.passed.given.right tt in (
-      (right, calm_ask h.scene step.by h.number g h.view there.view here.volumes (All-head (ones h.view there.view) step steps here.printers) step.what right (next.passed.honest tt)),
+    let later = none_within (step ∷ steps) h.view there.view last last next.passed.goes (proceeds_none last) none in (
+      ask_shown h.scene step.by h.number g h.view there.view here.volumes (All-head (ones h.view there.view) step steps here.printers) step.what (next.passed.given.right tt) (next.passed.honest tt),
       record { volumes = later.volumes; printers = All-tail (ones there.view last) step steps later.printers },
     )
 
@@ -299,4 +254,4 @@ find_none told t b e none p =
     let S = scene_of b.from in
     ap (λ os. map shown os) p.did_is
     ∙ lines_same p.given b.steps S S.counts S.armed 1
-    (each_line (Unit {0}) IsCalmAt (λ steps h. NoneFailed steps h.view e.view) (stops b e p.result) (calm_line e.view) (starts b) p.given b.steps e.many none p.passed)
+    (each_line (Unit {0}) IsShownSame (λ steps h. NoneFailed steps h.view e.view) (stops b e p.result) (calm_line e.view) (starts b) p.given b.steps e.many none p.passed)

@@ -1,13 +1,9 @@
 -- The copies in lines one after another.
-use Rattle.mas_run.proofs.Names.{IsCopyKept, each, is_alive, of_device, pick, ◌≡◌, ◌⊎◌, inl, inr, ℕ, Bool, true, false, Result, Ok, Err, refl, sym, ◌∙◌, ⊎_elim, ap, Dev, Ckpt1, Ckpt2, PlantGhosts, View, Parts, NodeNo, Grows, IsLeft, grow_rose, no, rose_grow, KeepCopies, LeavesCopies, LeavesOne, LeavesSome, ends_both, sides_of, HasLost, proceeds_none, proceeds_of, proceeds_on, OnConsole, StepCauses, HasActedIn, Passage, MemberId, Ghosts as CopyGhosts, is_open, Renewals, Disk, Proceeds, Rose}
+use Rattle.mas_run.proofs.Names.{arith, IsCopyKept, each, is_alive, of_device, pick, ◌≡◌, ◌⊎◌, inl, inr, ℕ, Bool, true, Result, Ok, refl, sym, ◌∙◌, ⊎_elim, ap, Dev, Ckpt1, Ckpt2, PlantGhosts, View, Parts, NodeNo, Grows, IsLeft, grow_rose, no, rose_grow, KeepCopies, LeavesCopies, LeavesOne, LeavesSome, ends_both, sides_of, HasLost, proceeds_none, proceeds_of, proceeds_on, OnConsole, StepCauses, HasActedIn, Passage, MemberId, Ghosts as CopyGhosts, is_open, Renewals, Disk, Proceeds, Rose, by_test, HasCause}
 use Rattle.run_opening.proofs.LossLemmas.{lost_after, lost_before}
 use Rattle.member_steps.proofs.KeepLemmas.{left_then}
 use Rattle.member_node.specs.declared.member.NodeNo.TheVariants as no_node
 use Rattle.mas_complex.specs.CallCounts.{pair_at}
-
-pub by_test : {A : Type 0} (b : Bool) → (b ≡ true → A) → (b ≡ false → A) → A
-by_test true f g = f refl
-by_test false f g = g refl
 
 -- by what follows for each copy
 each_lost : (v0 v1 v2 v3 : View) → ((d : Dev) → Rose (v0.loses d) (v1.loses d) → Rose (v2.loses d) (v3.loses d)) → HasLost v0 v1 → HasLost v2 v3
@@ -29,8 +25,7 @@ module _ {P C : Type 0} (plants : PlantGhosts P) where
 
   left_by : (both : Bool) (x y z : Parts P C) → ((d : Dev) → Grows ((v x).loses d) ((v y).loses d)) → ((d : Dev) → Grows ((v y).loses d) ((v z).loses d))
       → Left x y → LeavesOne both (sides_of plants y) (sides_of plants z) → LeavesOne both (sides_of plants x) (sides_of plants z)
-  left_by false x y z grow more one two = lefts x y z grow more one two
-  left_by true x y z grow more one two = two
+  left_by q0 x y z grow more one two = grind arith
 
   pub alive_same : (x y : Parts P C) → y.first_alive ≡ x.first_alive → y.second_alive ≡ x.second_alive → (d : Dev) → is_alive d (sides_of plants y) ≡ is_alive d (sides_of plants x)
   alive_same x y one two d = ap (λ (a : Bool). pick d a y.second_alive) one ∙ ap (λ (b : Bool). pick d x.first_alive b) two
@@ -46,9 +41,6 @@ module _ {P C : Type 0} (plants : PlantGhosts P) where
     grow = λ d. inl (loses d);
     left = left;
   }
-
-  pub copies_none : (x : Parts P C) → KeepCopies plants {T = Unit {0}} x x (Ok tt)
-  copies_none x = copies_still {T = Unit {0}} x x (Ok tt) (proceeds_none (v x)) refl refl (λ d. refl) (λ d. refl) (inl (inr (refl, refl)))
 
   pub copies_then : {T : Type 0} (x y z : Parts P C) (r : Result T NodeNo) → KeepCopies plants {T = Unit {0}} x y (Ok tt) → KeepCopies plants y z r → KeepCopies plants x z r
   copies_then x y z r one two = let grows_on : (x y z : ℕ) → Grows x y → Grows y z → Grows x z = λ x y z one two. ⊎_elim (λ same. ⊎_elim (λ still. inl (still ∙ same)) (λ rose. inr (grow_rose x y z one rose)) two) (λ rose. inr (rose_grow x y z rose two)) one in
@@ -76,25 +68,19 @@ module _ {P C : Type 0} (plants : PlantGhosts P) where
   }
 
   -- a step, by the cause of its answer
-  step_leaves : (by : ℕ) (x y : Parts P C) (r : Result (Unit {0}) NodeNo) → StepCauses r by (pair_at x.first_alive x.second_alive (v x)) (pair_at y.first_alive y.second_alive (v y))
+  pub step_leaves : (by : ℕ) (x y : Parts P C) (r : Result (Unit {0}) NodeNo) → StepCauses r by (pair_at x.first_alive x.second_alive (v x)) (pair_at y.first_alive y.second_alive (v y))
       → LeavesSome plants x y r
-  step_leaves by x y (Err no_node.BothLost) cause = cause
-  step_leaves by x y (Err no_node.ConsoleFault) cause = inl cause.0
-  step_leaves by x y (Err no_node.Halted) cause = inl cause.0
-  step_leaves by x y _ cause = inl cause
+  step_leaves by x y q3 cause = grind arith
 
-  pub acted_copies : (copies : CopyGhosts C) (by : MemberId) (x y : Parts P C) (r : Result (Unit {0}) NodeNo) → HasActedIn plants copies by x y r → KeepCopies plants x y r
-  acted_copies copies by x y r acts = copies_of x y r acts.course (step_leaves by.0 x y r acts.cause)
+  -- a line that was said, by the cause of its answer
+  pub cause_said : (by : ℕ) (x y : Parts P C) (r : Result (Unit {0}) NodeNo) → (y.first_alive ≡ x.first_alive) × (y.second_alive ≡ x.second_alive) → HasCause r by (v x) (v y)
+      → StepCauses r by (pair_at x.first_alive x.second_alive (v x)) (pair_at y.first_alive y.second_alive (v y))
+  cause_said by x y q3 same cause = grind arith
 
-  -- a line that was said, and what was left of it
-  unlost : (r : Result (Unit {0}) NodeNo) (x y : Parts P C) → (r ≡ Err no_node.BothLost → ⊥) → y.first_alive ≡ x.first_alive → y.second_alive ≡ x.second_alive → LeavesSome plants x y r
-  unlost (Err no_node.BothLost) x y other same1 same2 = absurd (other refl)
-  unlost _ x y other same1 same2 = inl (inr (same1, same2))
-
-  pub said_copies : (x y : Parts P C) (r : Result (Unit {0}) NodeNo) → OnConsole plants.tells (v x) (v y) → y.first_alive ≡ x.first_alive → y.second_alive ≡ x.second_alive
-      → (r ≡ Err no_node.BothLost → ⊥) → KeepCopies plants x y r
-  said_copies x y r acts same1 same2 other =
-      copies_still x y r (proceeds_of (v x) (v y) acts.goes) same1 same2 (λ d. acts.lost d) (λ d. acts.loses d) (unlost r x y other same1 same2)
+  pub said_copies : (by : ℕ) (x y : Parts P C) (r : Result (Unit {0}) NodeNo) → OnConsole plants.tells (v x) (v y) → y.first_alive ≡ x.first_alive → y.second_alive ≡ x.second_alive
+      → HasCause r by (v x) (v y) → KeepCopies plants x y r
+  said_copies by x y r acts same1 same2 cause =
+      copies_still x y r (proceeds_of (v x) (v y) acts.goes) same1 same2 (λ d. acts.lost d) (λ d. acts.loses d) (step_leaves by x y r (cause_said by x y r (same1, same2) cause))
 
   -- AND WHETHER THEY ARE BEING REPLACED
 
@@ -106,10 +92,14 @@ module _ {P C : Type 0} (plants : PlantGhosts P) where
   }
 
   pub leaves_none : (x : Parts P C) → LeavesCopies plants {T = Unit {0}} x x (Ok tt)
-  leaves_none x = leaves_same {T = Unit {0}} x x (Ok tt) (copies_none x) refl (λ is. is) (λ is. is)
+  leaves_none x = leaves_same {T = Unit {0}} x x (Ok tt) (copies_still {T = Unit {0}} x x (Ok tt) (proceeds_none (v x)) refl refl (λ d. refl) (λ d. refl) (inl (inr (refl, refl)))) refl (λ is. is) (λ is. is)
 
   pub leaves_then : {T : Type 0} (x y z : Parts P C) (r : Result T NodeNo) → LeavesCopies plants {T = Unit {0}} x y (Ok tt) → LeavesCopies plants y z r → LeavesCopies plants x z r
   leaves_then x y z r one two = record {
     devices = copies_then x y z r one.devices two.devices;
     whole = λ d ckpt now before. two.whole d ckpt now (λ mid. one.whole d ckpt mid before);
   }
+
+  -- a step after which they are as it found them
+  pub acted_leaves : (copies : CopyGhosts C) (by : MemberId) (x y : Parts P C) (r : Result (Unit {0}) NodeNo) → HasActedIn plants copies by x y r → y.renewals ≡ x.renewals → LeavesCopies plants x y r
+  acted_leaves copies by x y r acts same = leaves_same x y r (copies_of x y r acts.course (step_leaves by.0 x y r acts.cause)) same acts.course.alive1 acts.course.alive2

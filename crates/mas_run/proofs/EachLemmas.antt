@@ -13,7 +13,7 @@ module _ (told : Type 0) (P : LineAt → Type 0) (Known : List Step → Here →
       let g = given_first gs in
       let p = played_at (line_of h g step) in
       let after = here_after h g step there in
-      let goes : Proceeds there.view end.view = by_going p.goes_on (λ b. Proceeds there.view end.view) rest (λ m. passed_goes told after (drop 1 gs) steps more end m.1)
-      (λ e. subst (λ (x : There). Proceeds there.view x.view) (sym e.0) (proceeds_none there.view)) in
+      let goes : Proceeds there.view end.view = by_going p.goes_on (λ b. Proceeds there.view end.view) rest (λ on m. passed_goes told after (drop 1 gs) steps more end m.1)
+      (λ off e. subst (λ (x : There). Proceeds there.view x.view) (sym e.0) (proceeds_none there.view)) in
       let it = one h g step steps there is next goes in
-      (it.0, by_going p.goes_on (λ b. RightIf b (AreEach P p.next (h.number + 1) (drop 1 gs) steps)) rest (λ m. each_line after (drop 1 gs) steps more it.1 m.1) (λ e. tt))
+      (it.0, by_going p.goes_on (λ b. RightIf b (AreEach P p.next (h.number + 1) (drop 1 gs) steps)) rest (λ on m. each_line after (drop 1 gs) steps more it.1 m.1) (λ off e. tt))

@@ -1,5 +1,5 @@
 -- The journal before and after a line, and what follows of it for the queue and for what is in flight.
-use Rattle.mas_run.proofs.Names.{◌≡◌, ℕ, Bool, false, if◌then◌else◌, List, [], ◌∷◌, ◌++◌, append-nil, Option, Some, None, refl, sym, ◌∙◌, ap, subst, map-append, Batch, Entry, Fate, Dropped, Flying, Kept, MemberId, Queue, is_flying, is_kept, run, Book, with_last-append, kept_all_append, placed_all, unplaced_settled, AreSettled, end_of, in_flight, kept_all, with_last, Batched, AreBatched, IsBatched as StandsAs, flies_as, flight_found, flying_in, kept_in, queue_found, kept_of, fate_then, flight_then, with_fate, AreHistory, as_history, settled, settle, with_found, IsFlight, IsBetween, IsShown, StandsIn, PlantGhosts, Ghosts as CopyGhosts, Parts, Member, Scene, journal_of, queue_of, settle_both, settle_still, run_append, flown_of, no}
+use Rattle.mas_run.proofs.Names.{arith, ◌≡◌, ℕ, Bool, false, if◌then◌else◌, List, [], ◌∷◌, ◌++◌, append-nil, Option, Some, None, refl, sym, ◌∙◌, ap, subst, map-append, Batch, Entry, Fate, Dropped, Flying, Kept, MemberId, Queue, is_flying, is_kept, run, Book, with_last-append, kept_all_append, placed_all, unplaced_settled, AreSettled, end_of, in_flight, kept_all, with_last, Batched, AreBatched, IsBatched as StandsAs, flies_as, flight_found, flying_in, kept_in, queue_found, kept_of, fate_then, flight_then, with_fate, AreHistory, as_history, settled, settle, with_found, IsFlight, IsBetween, IsShown, StandsIn, PlantGhosts, Ghosts as CopyGhosts, Parts, Member, Scene, journal_of, queue_of, settle_both, settle_still, run_append, flown_of, no}
 
 -- THE HISTORY
 
@@ -11,28 +11,21 @@ history_settled : (f : Fate) (at : ℕ) (bs : List Batch) → as_history (settle
 history_settled f at [] = refl
 history_settled f at (b ∷ bs) = ap (λ (x : Batched). x ∷ as_history (settle f at bs)) (by_fate b.fate refl) ∙ ap (λ (xs : List Batched). with_fate (fate_then f b.fate) b.entries ∷ xs) (history_settled f at bs) where
   found : (g : Fate) → b.fate ≡ Flying → seen (with_found g at b) ≡ with_fate g b.entries
-  found Kept flies = refl
-  found Dropped flies = refl
-  found Flying flies = ap (λ (k : Fate). with_fate k b.entries) flies
+  found g flies = grind arith
 
   by_fate : (k : Fate) → b.fate ≡ k → seen (if is_flying k then with_found f at b else b) ≡ with_fate (fate_then f k) b.entries
-  by_fate Flying is = found f is
-  by_fate Kept is = ap (λ (k : Fate). with_fate k b.entries) is
-  by_fate Dropped is = ap (λ (k : Fate). with_fate k b.entries) is
+  by_fate k is = grind (arith, found f)
 
 -- and of a line's own batches
 pub history_own : (by : MemberId) (from now : ℕ) (xs : List Batched) (bs : List Batch) → AreBatched by from now xs bs → AreHistory xs bs
 history_own by from now [] [] are = refl
-history_own by from now [] (b ∷ bs) are = absurd are
-history_own by from now (x ∷ xs) [] are = absurd are
 history_own by from now (x ∷ xs) (b ∷ bs) are = ap (λ (k : Batched). k ∷ as_history bs) (stands_as x.fate refl are.0) ∙ ap (λ (ks : List Batched). x ∷ ks) (history_own by b.last now xs bs are.1) where
   same : b.entries ≡ x.entries → b.fate ≡ x.fate → seen b ≡ x
   same entries fate = ap (λ (k : Fate). with_fate k b.entries) fate ∙ ap (λ (es : List Entry). with_fate x.fate es) entries
 
   stands_as : (f : Fate) → x.fate ≡ f → StandsAs f by x from now b → seen b ≡ x
-  stands_as Kept e is = same is.entries (is.kept ∙ sym e)
-  stands_as Flying e is = same is.entries (is.flies ∙ sym e)
-  stands_as Dropped e is = absurd is
+  stands_as q0 e is = grind arith
+history_own by from now _ _ are = absurd are
 
 pub history_more : (f : Fate) (at : ℕ) (xs ys : List Batched) (bs own : List Batch) → AreHistory xs bs → AreHistory ys own → AreHistory (settled f xs ++ ys) (settle f at bs ++ own)
 history_more f at xs ys bs own are more =
@@ -43,8 +36,7 @@ kept_history : (bs : List Batch) → kept_all bs ≡ kept_in (as_history bs)
 kept_history [] = refl
 kept_history (b ∷ bs) = ap (λ (es : List Entry). es ++ kept_all bs) (by_fate b.fate) ∙ ap (λ (es : List Entry). kept_of b.fate b.entries ++ es) (kept_history bs) where
   by_fate : (f : Fate) → (if is_kept f then b.entries else []) ≡ kept_of f b.entries
-  by_fate Kept = refl
-  by_fate _ = refl
+  by_fate f = grind arith
 
 -- WHAT IS IN FLIGHT
 
@@ -53,11 +45,7 @@ flying_settled Kept [] = refl
 flying_settled _ [] = refl
 flying_settled f (x ∷ xs) = by_fates f x.fate (flying_settled f xs) where
   by_fates : (f k : Fate) → flying_in (settled f xs) ≡ flight_found f (flying_in xs) → flies_as (fate_then f k) x.entries (flying_in (settled f xs)) ≡ flight_found f (flies_as k x.entries (flying_in xs))
-  by_fates Flying Flying more = refl
-  by_fates Kept Flying more = more
-  by_fates Dropped Flying more = more
-  by_fates f Kept more = more
-  by_fates f Dropped more = more
+  by_fates f k more = grind arith
 
 -- no batch flies after one that does
 abbrev AreAlone : List Batched → Type 0
@@ -68,18 +56,14 @@ AreAlone (x ∷ xs) = (x.fate ≡ Flying → flying_in xs ≡ None) × AreAlone 
 flying_both : (xs ys : List Batched) → AreAlone (xs ++ ys) → flying_in (xs ++ ys) ≡ flight_then (flying_in ys) (flying_in xs)
 flying_both [] ys alone = none_before (flying_in ys) where
   none_before : (o : Option (List Entry)) → o ≡ flight_then o None
-  none_before None = refl
-  none_before (Some es) = refl
+  none_before o = grind arith
 flying_both (x ∷ xs) ys alone = by_fate x.fate alone.0 (flying_both xs ys alone.1) where
   first : (o p : Option (List Entry)) → flight_then o p ≡ None → Some x.entries ≡ flight_then o (Some x.entries)
-  first None p none = refl
-  first (Some es) p none = absurd (cc)
+  first o p none = grind arith
 
   by_fate : (f : Fate) → (f ≡ Flying → flying_in (xs ++ ys) ≡ None) → flying_in (xs ++ ys) ≡ flight_then (flying_in ys) (flying_in xs)
       → flies_as f x.entries (flying_in (xs ++ ys)) ≡ flight_then (flying_in ys) (flies_as f x.entries (flying_in xs))
-  by_fate Flying none more = first (flying_in ys) (flying_in xs) (sym more ∙ none refl)
-  by_fate Kept none more = more
-  by_fate Dropped none more = more
+  by_fate f none more = grind (arith, first)
 
 -- THE JOURNAL without what is in flight
 
@@ -126,8 +110,7 @@ module _ (batches : List Batch) (placed : Bool) (b : Book) (current : Option Bat
         last (Some c) so = ((λ flies. refl, tt), ap (λ (f : Fate). flies_as f c.entries None) so.1)
 
         unflown : (f : Fate) (es : List Entry) (rest : Option (List Entry)) → is_flying f ≡ false → flies_as f es rest ≡ rest
-        unflown Flying es rest not = absurd (cc)
-        unflown _ es rest not = refl
+        unflown f es rest not = grind arith
 
         after : (bs : List Batch) → AreSettled bs now → AreAlone (as_history (bs ++ in_flight current)) × (flying_in (as_history (bs ++ in_flight current)) ≡ flown_of current)
         after [] settled = last current stands

@@ -1,32 +1,25 @@
 -- What is known of a line by its admission, and of its member.
-use Rattle.mas_run.proofs.Names.{◌≡◌, ◌⊎◌, inl, inr, Bool, true, false, if◌then◌else◌, Some, None, refl, sym, ◌∙◌, ap, subst, ⊎_elim, ◌+◌, ◌≤◌, length, arith, Command, MemberId, nobody, is_somebody, is_member, job_seen_in, nothing_seen, refused_card, seen_after, LockNo, Book, is_holder, is_stopped, try_refusal, IsMember, is_dormant, wakes, Ask, Admission, Frees, Locks, Plays, Refused, Replaces, Resets, TakesOver, admitted, resets, Denied, Unplayed, denied_closing, Dev, Spool, IsCkpt, Queue, AreMembersNamed, IsConfig, IsFit, members_most, IsPlayed, IsCopy, IsAsk, IsBy, IsGivable, MayBeAsked, AreFewUnits, IsSayer, is_of_member, line_by, ArmCame, Comes, CommandCame, DeckCame, FreeCame, HasGot, IsUp, LineCame, LockCame, LossCame, NoMember, NotGranted, ReplaceCame, ResetCame, SaysNo, StillUp, StopCame, TakeoverCame, WorkCame, comes, few_of, holder_is, inside_of}
+use Rattle.mas_run.proofs.Names.{arith, ◌≡◌, ◌⊎◌, inl, inr, Bool, true, false, if◌then◌else◌, Some, None, refl, sym, ◌∙◌, ap, subst, ⊎_elim, ◌+◌, ◌≤◌, length, Command, MemberId, nobody, is_somebody, is_member, job_seen_in, nothing_seen, refused_card, seen_after, LockNo, Book, is_holder, is_stopped, try_refusal, is_dormant, wakes, Ask, Admission, Frees, Locks, Plays, Refused, Replaces, Resets, TakesOver, admitted, resets, Denied, Unplayed, denied_closing, Dev, IsCkpt, Queue, AreMembersNamed, IsConfig, IsFit, members_most, IsPlayed, IsCopy, IsAsk, IsBy, IsGivable, MayBeAsked, AreFewUnits, IsSayer, is_of_member, line_by, Comes, CommandCame, DeckCame, FreeCame, HasGot, IsUp, LineCame, LockCame, NoMember, NotGranted, ReplaceCame, ResetCame, SaysNo, StillUp, TakeoverCame, WorkCame, comes, few_of, holder_is, inside_of, false_from_ne_true, played, Closing, admission_of, ◌≢◌, Reset}
 use Rattle.run_opening.proofs.TypedLemmas.{reset_givable, typed_givable}
 use Rattle.card_reader.specs.Statements.{cards_to_end, items_of}
 use Rattle.card_reader.proofs.Fields.{fields_fit, least-ok}
 use Rattle.card_reader.proofs.Refusals.{cards_fit}
-use Rattle.script_lang.specs.declared.types.Ask.TheVariants as ask
-use Rattle.mas_types.specs.declared.commands.Command.TheVariants as command
+use Rattle.member_lines.specs.declared.admissions.Admission.{Admission as Admitted}
+use Rattle.member_lines.specs.declared.admissions.Admission.TheVariants as admits
 use Rattle.lock_cycle.specs.declared.answers.LockNo.TheVariants as lock
 
 -- THE LIMITS of a line of a member
 
 pub few_by : (by : MemberId) (what : Ask) → is_of_member what ≡ true → IsBy by what → by.0 ≤ members_most
-few_by by (ask.Lose dev) is some = absurd (cc)
-few_by by _ is some = some.1
-
-pub some_by : (by : MemberId) (what : Ask) → is_of_member what ≡ true → IsBy by what → 1 ≤ by.0
-some_by by (ask.Lose dev) is some = absurd (cc)
-some_by by _ is some = some.0
+few_by by q1 is some = grind arith
 
 pub few_asked : (what : Ask) → IsAsk what → AreFewUnits what
-few_asked (ask.Work n) is = is.1
-few_asked _ is = tt
+few_asked q0 is = grind arith
 
 -- A COPY that a script may have replaced
 
 copy_ckpt : (d : Dev) → IsCopy d → IsCkpt d
-copy_ckpt (Spool n) is = absurd is
-copy_ckpt _ is = tt
+copy_ckpt q0 is = grind arith
 
 -- BY ITS ADMISSION
 
@@ -35,7 +28,7 @@ module _ (Q : Queue) (config : IsConfig Q.config) (b : Book) (by : MemberId) whe
   pub record IsDown (of : MemberId) : Type 0 where
     pub member : is_member Q.config of ≡ true
     pub down : is_stopped b of ≡ true
-    pub givable : is_member Q.config by ≡ true → IsGivable Q by (command.Reset of)
+    pub givable : is_member Q.config by ≡ true → IsGivable Q by (Reset of)
 
   abbrev IsSaidBy : MemberId → Type 0
   IsSaidBy sayer = (sayer ≡ nobody) ⊎ ((sayer ≡ by) × IsUp Q.config b by)
@@ -71,40 +64,28 @@ module _ (Q : Queue) (config : IsConfig Q.config) (b : Book) (by : MemberId) whe
   known_by (LockCame got) is played = (got.is_up, got)
   known_by (FreeCame up holds) is played = (up, holds)
   known_by (ReplaceCame dev got) is played = (got.is_up, copy_ckpt dev played.fits.what, got)
-  known_by StopCame is played = absurd (cc)
-  known_by (ArmCame fuse n) is played = absurd (cc)
-  known_by (LossCame dev) is played = absurd (cc)
+  known_by _ is played = absurd (cc)
 
   pub known : (what : Ask) → is_of_member what ≡ true → IsPlayed (line_by by what) → IsKnown (admitted Q.config b by what)
   known what is played = known_by (comes Q.config b by what) is played
 
+  -- whoever isn't refused is up
+  pub acts_up : (said : Admitted) → ((sayer : MemberId) (end : Closing) → said ≢ admits.Refused sayer end) → IsKnown (admission_of said) → IsUp Q.config b by
+  acts_up q0 acts is = grind arith
+
   -- the lock is held by a member that has its number
   pub busy_named : (why : LockNo) → try_refusal b by false ≡ Some why → b.holder.0 ≤ members_most → AreMembersNamed (denied_closing why)
-  busy_named why is few = by_tests (is_stopped b by) (is_holder b by) (is_somebody b.holder) (is_dormant b by false) is where
-    by_tests : (s h t d : Bool)
-        → (if s then Some lock.Down else if h then None else if t then Some (lock.Busy b.holder) else if d then Some (lock.Dormant (wakes b by)) else None) ≡ Some why
-        → AreMembersNamed (denied_closing why)
-    by_tests true h t d e = let same : lock.Down ≡ why = cc in subst (λ (w : LockNo). AreMembersNamed (denied_closing w)) same tt
-    by_tests false true t d e = absurd (cc)
-    by_tests false false true d e = let same : lock.Busy b.holder ≡ why = cc in subst (λ (w : LockNo). AreMembersNamed (denied_closing w)) same few
-    by_tests false false false true e = let same : lock.Dormant (wakes b by) ≡ why = cc in subst (λ (w : LockNo). AreMembersNamed (denied_closing w)) same tt
-    by_tests false false false false e = absurd (cc)
+  busy_named (lock.Busy m) is few = subst (λ (k : MemberId). k.0 ≤ members_most) (by_tests (is_stopped b by) (is_holder b by) (is_somebody b.holder) (is_dormant b by false) is) few where
+    by_tests : (s h t d : Bool) → (if s then Some lock.Down else if h then None else if t then Some (lock.Busy b.holder) else if d then Some (lock.Dormant (wakes b by)) else None) ≡ Some (lock.Busy m) → b.holder ≡ m
+    by_tests false false true d e = cc
+    by_tests false false false true e = absurd (cc)
+    by_tests _ _ _ _ e = absurd (cc)
+  busy_named _ is few = tt
 
   -- who says the line of a refusal may
   pub sayer_of : length b.members ≡ Q.config.members → (sayer : MemberId) → IsSaidBy sayer → IsSayer b sayer by
   sayer_of booked sayer says = ⊎_elim inl (λ own. inr (own.0, inside_of Q.config by own.1.member b booked, own.1.up)) says
 
-  pub said_by : (sayer : MemberId) → IsSaidBy sayer → (sayer ≡ nobody) ⊎ (sayer ≡ by)
-  said_by sayer says = ⊎_elim inl (λ own. inr own.0) says
-
-  pub own_seat : length b.members ≡ Q.config.members → (sayer : MemberId) → IsSaidBy sayer → sayer ≡ by → 1 ≤ by.0 → IsMember b by
-  own_seat booked sayer says same some = ⊎_elim
-      (λ none. let zero_says = ap (λ (m : MemberId). m.0) (sym same ∙ none) in absurd (omega (arith, zero_says, some)))
-      (λ own. inside_of Q.config by own.1.member b booked) says
-
   -- a member that is up isn't the stopped one that holds the lock
   pub not_holder : (of : MemberId) → is_stopped b by ≡ false → is_stopped b of ≡ true → is_holder b of ≡ true → is_holder b by ≡ false
-  not_holder of up down holds = by_test (is_holder b by) refl where
-    by_test : (h : Bool) → is_holder b by ≡ h → is_holder b by ≡ false
-    by_test false free = free
-    by_test true mine = absurd (let same = ap (λ (m : MemberId). is_stopped b m) (sym (holder_is b of holds) ∙ holder_is b by mine) in cc)
+  not_holder of up down holds = false_from_ne_true (is_holder b by) (λ mine. absurd (let same = ap (λ (m : MemberId). is_stopped b m) (sym (holder_is b of holds) ∙ holder_is b by mine) in cc))

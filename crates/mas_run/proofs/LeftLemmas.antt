@@ -1,18 +1,12 @@
 -- A line of a member, in the words of a run: by what it left, and once the operator said that its member was stopped.
-use Rattle.mas_run.proofs.Names.{IsWhy, ℕ, Bool, refl, ◌≡◌, inl, inr, ◌==◌, true, false, if◌then◌else◌, List, [], ◌∷◌, ◌++◌, map, append-nil, Option, None, Result, Ok, sym, ◌∙◌, ap, subst, arith, ⊎_elim, ◌⊎◌, ◌≤◌, Some, Err, ◌+◌, OnOk, Spool, Ckpt1, Ckpt2, View, ViewLine as Line, paper_now, World, KeepsCounts, VolumesStay, none_lost, console_now, stay_both, stay_more, OnConsole, eqb-true, nat_tests, map-append, Fate, Dev, MemberId, Ask, PlantGhosts, Ghosts as CopyGhosts, Parts, NodeNo, next, Goes, Cut, Cause, Scene, Said, cause_of, steps_said_by as said_by, stopped_lines, Given, played_with, ArePiecesOf, IsAskRight, LineAt, admitted_at, pieces_at, fate_found, sayer_of, Piece, Admission, Plays, AdmissionLeaves, CutsAs, IfIdle, IfOfMember, IsPassed, IsWithin, is_takeover, printed_at, taking, IsGiven, named_as, IsNextAct, MayLoseCopy, loses_then, HasLeft, linesleft_left_at as left_at, IsCutBy, is_of_member, Disk, SamePapers, stopped_in, IsOneAct, CouldNotStay, IsWhyLost, Proceeds, IsShapedAs, holder_as, by_order, All-weaker, Finds, units_done, units_left, nothing_found, Holder, State, Fresh, Told, Task, Deck, Give, Work, AreFoundIn, IsFoundAt, Wait, AreShaped, DeckLinesIn, SaysIn, WorkLinesIn, ended_as, LeavesVolumes, no, PairState, goes_none, Account, account_at}
+use Rattle.mas_run.proofs.Names.{of_if, IsWhy, ℕ, Bool, refl, ◌≡◌, inl, inr, ◌==◌, true, false, List, [], ◌∷◌, ◌++◌, map, append-nil, Option, None, Result, Ok, sym, ◌∙◌, ap, subst, arith, ⊎_elim, ◌⊎◌, ◌≤◌, Some, Err, ◌+◌, OnOk, Spool, Ckpt1, Ckpt2, View, ViewLine as Line, paper_now, World, KeepsCounts, VolumesStay, none_lost, console_now, stay_more, OnConsole, eqb-true, nat_tests, map-append, Fate, Dev, MemberId, Ask, PlantGhosts, Ghosts as CopyGhosts, Parts, NodeNo, next, Goes, Cut, Cause, Scene, Said, cause_of, steps_said_by as said_by, stopped_lines, Given, played_with, ArePiecesOf, IsAskRight, LineAt, admitted_at, pieces_at, fate_found, sayer_of, Piece, Admission, Plays, AdmissionLeaves, CutsAs, IfIdle, IfOfMember, IsPassed, IsWithin, is_takeover, printed_at, taking, IsGiven, named_as, IsNextAct, MayLoseCopy, loses_then, HasLeft, linesleft_left_at as left_at, IsCutBy, is_of_member, Disk, SamePapers, stopped_in, IsOneAct, CouldNotStay, IsWhyLost, Proceeds, IsShapedAs, holder_as, by_order, All-weaker, Finds, units_done, units_left, nothing_found, Holder, State, Fresh, Task, Deck, Give, Work, AreFoundIn, IsFoundAt, Wait, AreShaped, DeckLinesIn, SaysIn, WorkLinesIn, ended_as, LeavesVolumes, no, PairState, goes_none, Account, account_at, IfRuns, AreVolumesKept, IsHonestAs, OnlyStops, Halted, Stop, StopIn, Lose}
 use Rattle.member_resets.proofs.Following.{found_in}
 use Rattle.member_work.proofs.CauseLemmas.{wider_found, wider_refusal}
 use Rattle.member_sittings.specs.Shapes.{SaysAtEnd}
-use Rattle.script_lang.specs.declared.types.Ask.TheVariants as ask
-use Rattle.member_node.specs.declared.member.NodeNo.TheVariants as no_node
 
 -- where none is lost none but these is
 pub stays_any : (but : ℕ → Bool) (old new : View) → VolumesStay none_lost old new → VolumesStay but old new
 stays_any but old new is = stay_more none_lost but old new (λ n other. refl) is
-
--- then nothing is done to them
-pub stays_on : (but : ℕ → Bool) (old mid new : View) → VolumesStay but old mid → VolumesStay none_lost mid new → VolumesStay but old new
-stays_on but old mid new one two = stay_both but old mid new one (stays_any but mid new two)
 
 -- what is said on the console does nothing to them
 pub console_stays : {told : Type 0} (old new : View) → OnConsole told old new → VolumesStay none_lost old new
@@ -28,10 +22,7 @@ counted_stays by stopped x y counts = record { lost = λ n other. counts.volumes
 -- A LINE OF A MEMBER
 
 pub if_member : (what : Ask) (P : Type 0) → P → IfOfMember what P
-if_member ask.Stop P p = tt
-if_member (ask.StopIn what n) P p = tt
-if_member (ask.Lose dev) P p = tt
-if_member _ P p = p
+if_member q0 q1 p = grind arith
 
 -- the account of a line of a member, by its admission
 abbrev pub account_as : LineAt → Account
@@ -44,9 +35,9 @@ pub record IsOfMember (l : LineAt) : Type 0 where
   pub leaves : LeavesVolumes l → AdmissionLeaves (admitted_at l)
 
 member_line : (S : Scene) (at : ℕ) (g : Given) (by : MemberId) (what : Ask) → is_of_member what ≡ true → IsOfMember (record { scene = S; number = at; step = record { by = by; what = what }; given = g })
-member_line S at g by ask.Stop is = absurd (no false is refl)
-member_line S at g by (ask.StopIn what n) is = absurd (no false is refl)
-member_line S at g by (ask.Lose dev) is = absurd (no false is refl)
+member_line S at g by Stop is = absurd (no false is refl)
+member_line S at g by (StopIn what n) is = absurd (no false is refl)
+member_line S at g by (Lose dev) is = absurd (no false is refl)
 member_line S at g by _ is = record { account = refl; right = λ right. right; leaves = λ leaves. leaves }
 
 pub of_member : (l : LineAt) → is_of_member l.step.what ≡ true → IsOfMember l
@@ -72,10 +63,9 @@ given_by told l member old new shaped right = record { shaped = ⊎_elim inl (λ
 -- each printer has the lines of the line's member, or none
 pub printed_here : {P C : Type 0} (plants : PlantGhosts P) (copies : CopyGhosts C) (told : Type 0) (l : LineAt) (x y : Parts P C) {result : Result (Unit {0}) NodeNo} → HasLeft plants copies told l x y result → told → (m : ℕ)
     → paper_now (plants.view y.plant) m ≡ paper_now (plants.view x.plant) m ++ printed_at (account_as l) m
-printed_here plants copies told l x y left t m = by_member (l.step.by.0 == m) refl where
-  by_member : (is : Bool) → (l.step.by.0 == m) ≡ is → paper_now (plants.view y.plant) m ≡ paper_now (plants.view x.plant) m ++ (if is then (left_at l).printed else [])
-  by_member true is = subst (λ (k : ℕ). paper_now (plants.view y.plant) k ≡ paper_now (plants.view x.plant) k ++ (left_at l).printed) (eqb-true l.step.by.0 m is) (left.paper t)
-  by_member false is = left.other_papers t m (λ e. absurd (let same : (l.step.by.0 == m) ≡ true = grind (arith, nat_tests, e) in cc)) ∙ sym (append-nil (paper_now (plants.view x.plant) m))
+printed_here plants copies told l x y left t m = of_if (λ (ls : List Line). paper_now (plants.view y.plant) m ≡ paper_now (plants.view x.plant) m ++ ls) (l.step.by.0 == m) (left_at l).printed []
+    (λ is. subst (λ (k : ℕ). paper_now (plants.view y.plant) k ≡ paper_now (plants.view x.plant) k ++ (left_at l).printed) (eqb-true l.step.by.0 m is) (left.paper t))
+    (λ is. left.other_papers t m (λ e. absurd (let same : (l.step.by.0 == m) ≡ true = grind (arith, nat_tests, e) in cc)) ∙ sym (append-nil (paper_now (plants.view x.plant) m)))
 
 -- what a line that takes the lock over found of a batch in flight
 abbrev pub took : LineAt → Option Fate
@@ -83,13 +73,14 @@ took l = taking (is_takeover (admitted_at l)) (fate_found (admitted_at l) l.give
 
 -- BY ITS ANSWER
 
-pub on_ok : (r : Result (Unit {0}) NodeNo) (A B : Type 0) → (A → B) → OnOk r A → OnOk r B
-on_ok (Ok done) A B f a = f a
-on_ok (Err e) A B f a = tt
+pub if_ok : (r : Result (Unit {0}) NodeNo) (A : Type 0) → (r ≡ Ok tt → A) → OnOk r A
+if_ok q0 q1 f = grind arith
+
+pub if_runs : (r : Result (Unit {0}) NodeNo) (A : Type 0) → ((r ≡ Ok tt) ⊎ (r ≡ Err Halted) → A) → IfRuns r A
+if_runs q0 q1 f = grind arith
 
 pub if_idle : (works : Bool) (P : Type 0) → P → IfIdle works P
-if_idle true P p = tt
-if_idle false P p = p
+if_idle q0 q1 p = grind arith
 
 -- A line in which its member was stopped, once the operator has said so.
 
@@ -101,8 +92,7 @@ module _ (old mid new : View) (goes : Goes mid new) where
 
   -- lines that are said at a step's end alone
   at_end : (next : State) (F G : List (List ℕ) → Type 0) → ((ls : List (List ℕ)) → F ls → G ls) → (ls : List (List ℕ)) → SaysAtEnd next F ls → SaysAtEnd next G ls
-  at_end Told F G f ls says = f ls says
-  at_end _ F G f ls says = says
+  at_end q0 q1 q2 f ls says = grind arith
 
   says_later : (h : Holder) (task : Task) (p : Piece) → SaysIn h (Fresh task) nothing_found old mid p.sitting → SaysIn h (Fresh task) nothing_found old new p.sitting
   says_later h (Deck fields text) p says =
@@ -168,11 +158,10 @@ loses_on reads v0 v1 v2 goes same took d (inr may) = inr (may_on took d may) whe
 -- A LINE IN WHICH NOBODY WAS STOPPED: it was whole, or the run ended in it
 
 abbrev IsUnhalted : Result (Unit {0}) NodeNo → Type 0
-IsUnhalted r = r ≡ Err no_node.Halted → ⊥
+IsUnhalted r = r ≡ Err Halted → ⊥
 
 not_stopped : (r : Result (Unit {0}) NodeNo) → IsUnhalted r → stopped_in r ≡ false
-not_stopped (Err no_node.Halted) other = absurd (other refl)
-not_stopped _ other = refl
+not_stopped q0 other = grind arith
 
 -- where it was cut, and why; and nobody said that its member was stopped
 ended_so : (r : Result (Unit {0}) NodeNo) → IsUnhalted r → (by : MemberId) (at : ℕ) (ps : List Piece) (cut : Option Cut) (old new : View) → IsCutBy r ps cut → new.stops by.0 ≡ old.stops by.0
@@ -180,7 +169,7 @@ ended_so : (r : Result (Unit {0}) NodeNo) → IsUnhalted r → (by : MemberId) (
 ended_so (Ok done) other by at ps None old new is up = (up, tt, refl, refl)
 ended_so (Ok done) other by at ps (Some cut) old new is up = absurd (cc)
 ended_so (Err e) other by at ps None old new is up = absurd is
-ended_so (Err no_node.Halted) other by at ps (Some cut) old new is up = absurd (other refl)
+ended_so (Err Halted) other by at ps (Some cut) old new is up = absurd (other refl)
 ended_so (Err _) other by at ps (Some cut) old new is up =
     ((is.cause, inl (record { why = is.halt; other = λ same. absurd (cc); up = up })), is.there, inl (refl, up), ap (λ (why : Cause). stopped_lines by at (Some why)) is.cause)
 
@@ -189,26 +178,11 @@ pub passed_here : {P C : Type 0} (plants : PlantGhosts P) (copies : CopyGhosts C
 passed_here plants copies told l x y r other member left =
     let old = plants.view x.plant in
     let new = plants.view y.plant in
-    let so = ended_so r other l.step.by l.number (pieces_at l) l.given.sight.cut old new left.cut (left.spares.stops l.step.by.0 (inr (not_stopped r other))) in
-    record {
-      goes = left.goes;
-      stays = left.stays;
-      given = given_by told l member old new left.shaped left.right;
-      honest = λ t. if_member l.step.what _ (left.honest t);
-      stay = left.stay;
-      cut = so.0;
-      within = so.1;
-      why = ended_as r;
-      is_why = so.2;
-      tight = left.tight;
-      broke = left.broke;
-      spares = λ m differs. left.spares.stops m (inl differs);
-      failed = left.failed;
-      batches = left.batches;
-      console = λ t. left.console t ∙ ap (λ (ls : List Line). console_now old ++ ls)
-          (sym (lines_left l ∙ ap (λ (ss : List Said). (left_at l).lines ++ map (λ (s : Said). s.line) ss) so.3 ∙ append-nil (left_at l).lines));
-      paper = printed_here plants copies told l x y left;
-      dry = left.dry;
-      arms = left.arms;
-      volumes = λ t leaves. left.volumes t ((of_member l member).leaves leaves);
-    }
+    let so = ended_so r other l.step.by l.number (pieces_at l) l.given.sight.cut old new left.cut (left.acts.spares.stops l.step.by.0 (inr (not_stopped r other))) in
+    let given = given_by told l member old new left.shaped left.right in
+    let honest : told → IfOfMember l.step.what (IsHonestAs l (admitted_at l) l.given.sight.cut old new) = λ t. if_member l.step.what _ (left.honest t) in
+    let spares : OnlyStops l.step.by old new = λ m differs. left.acts.spares.stops m (inl differs) in
+    let console : told → console_now new ≡ console_now old ++ map (λ (s : Said). s.line) (account_as l).played.outcome.said = λ t. left.console t ∙ ap (λ (ls : List Line). console_now old ++ ls)
+    (sym (lines_left l ∙ ap (λ (ss : List Said). (left_at l).lines ++ map (λ (s : Said). s.line) ss) so.3 ∙ append-nil (left_at l).lines)) in
+    let volumes : told → LeavesVolumes l → AreVolumesKept old new = λ t leaves. left.volumes t ((of_member l member).leaves leaves) in
+    search (so, given, honest, spares, console, printed_here plants copies told l x y left, volumes, left.stay, left.broke, left.dry, left.acts.stays, left.acts.arms, left.acts.failed, left)

@@ -15,10 +15,10 @@ pub mod ClosesLemmas
 pub mod ReplacingLemmas
 pub mod TurnedLemmas
 pub mod DoneLemmas
-pub mod BarelyLemmas
 pub mod SeatLemmas
 mod TakesLemmas
 pub mod AskLemmas
+pub mod AfterLemmas
 pub mod ArmLemmas
 pub mod CalmRunLemmas
 pub mod Names

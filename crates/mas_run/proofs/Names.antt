@@ -9,7 +9,7 @@ pub use Rattle.std.proofs.lemmas.Result.{err_from_is_err_and}
 pub use Rattle.card_reader.specs.Decks.{job_seen_in, nothing_seen, read_as, refused_card, seen_after, text_of}
 pub use Rattle.ckpt_copy.specs.Changes.{NoMore}
 pub use Rattle.ckpt_copy.specs.Moments.{goes_none, goes_on, sides_none}
-pub use Rattle.mas_run.specs.Names.{Ghosts, form_needs, form_reads, SteadyGhosts, page_count, IsBothLost, SomeAlive, Book, IsMember, is_stopped, left_of, AreSettled, kept_all, run as meaning_run, SamePapers, counts_of, Parts, parts_of, begun_on, ended_on, is_open, no_renewals, Complex, Renewals, members_most, steps_most, wires_most, Status, Dev, Ckpt1, Ckpt2, Spool, MemberId, Batch, Grows, IsLeft, VolumesStay, WasLost, console_now, none_lost, NodeNo, AreBatched, AtCut, IsBroken, IsHaltBy, IsTight, cause_by, whole_pieces, AreFoundIn, Wait, named_in, waits_in, IfRuns, IsResetPiece, ended_as, settle, journal_of, Proceeds, StaysLost, Answers, IsPlayedOut, refusal_of, refused_sizes, AreAway, OneIsGood, as_found, has_begun, BetweenLines, IsShown, LeftBetween, Shows, IsCaused, IsCausedFrom, status_of, IsNotStarted, AreVolumesKept, AreVolumesKeptUntil, Completes, HaveRead, Admission, Denied, Plays, Refused, Replaces, Resets, TakesOver, admitted, granted_by, resets, ArePiecesOf, Given, RightIf, given_first, last_cut, line_with, outcomes_with, play_with, queue_met, scene_with, sights_of, Piece, Play, fate_found, holder_of, console, given_on, paper_of, Armed, Batched, Scene, scene_of, Cut, Ends, Halt, LostAgain, NotLost, Renewed, Replaced, Saying, Sight, Stops, Writing, Outcome, Played, is_up, IsPlayed, Ask, Script, Step, Goes, Rose, SameWires, next, top, ViewLine, View, given_now, paper_now, taken_now, Console, Disk, Printer, PlantGhosts, AreRoomy, Finds, Away, Fresh, Task, Deck, Line, Work}
+pub use Rattle.mas_run.specs.Names.{Ghosts, form_needs, form_reads, SteadyGhosts, page_count, IsBothLost, SomeAlive, Book, IsMember, is_stopped, left_of, AreSettled, kept_all, run as meaning_run, SamePapers, counts_of, Parts, parts_of, begun_on, ended_on, is_open, no_renewals, Complex, Renewals, members_most, steps_most, wires_most, Status, Dev, Ckpt1, Ckpt2, Spool, MemberId, Batch, Grows, IsLeft, VolumesStay, WasLost, console_now, none_lost, NodeNo, AreBatched, AtCut, IsBroken, IsHaltBy, IsTight, cause_by, whole_pieces, AreFoundIn, Wait, named_in, waits_in, IfRuns, IsResetPiece, ended_as, settle, journal_of, Proceeds, StaysLost, Answers, IsPlayedOut, refusal_of, refused_sizes, AreAway, OneIsGood, as_found, has_begun, BetweenLines, IsShown, LeftBetween, Shows, IsCaused, IsCausedFrom, status_of, IsNotStarted, AreVolumesKept, AreVolumesKeptUntil, Completes, HaveRead, Admission, Denied, Plays, Refused, Replaces, Resets, TakesOver, admitted, granted_by, resets, ArePiecesOf, Given, RightIf, given_first, last_cut, line_with, outcomes_with, play_with, queue_met, scene_with, sights_of, Piece, Play, fate_found, holder_of, console, given_on, paper_of, Armed, Batched, Scene, scene_of, Cut, Ends, Halt, LostAgain, NotLost, Renewed, Replaced, Saying, Sight, Stops, Writing, Outcome, Played, is_up, IsPlayed, Ask, Script, Step, Goes, Rose, SameWires, next, top, ViewLine, View, given_now, paper_now, taken_now, Console, Disk, Printer, PlantGhosts, AreRoomy, Finds, Away, Fresh, Task, Deck, Line, Work, OnlyStops, outcomes_of}
 pub use Rattle.ckpt_form.specs.Form.{form_room}
 pub use Rattle.duplex_pair.specs.Halves.{IsCkpt, other, pick}
 pub use Rattle.job_outcome.specs.declared.outcomes.Read.{Read}
@@ -23,7 +23,7 @@ pub use Rattle.mas_complex.specs.Headline.{Headline}
 pub use Rattle.mas_complex.specs.Journals.{end_of, in_flight, with_last}
 pub use Rattle.mas_complex.specs.Locking.{IsOperatorAway, reserved_after_stop}
 pub use Rattle.mas_complex.specs.Parts.{batches_left, placed_left, unreserved_in, with_half}
-pub use Rattle.mas_complex.proofs.Basics.{each, volume_beside}
+pub use Rattle.mas_complex.proofs.Basics.{each, of_if, volume_beside}
 pub use Rattle.mas_complex.specs.Renewals.{ended_at, of_device, or_at, with_device}
 pub use Rattle.mas_complex.specs.declared.renewals.Renewal.{Renewal}
 pub use Rattle.mas_run.specs.Bounds.{level_most, levels_most}
@@ -31,12 +31,12 @@ pub use Rattle.mas_run.specs.Copies.{AreSidesLeft, CopiesKept, IsCopyKept, KeepC
 pub use Rattle.mas_run.specs.Histories.{AreHistory, as_history}
 pub use Rattle.mas_run.specs.Lines.{Account, AdmissionLeaves, account_at, AskLeaves, CutsAs, EndsBy, IfIdle, IfOfMember, IsCutAs as LinesIsCutAs, IsGiven, IsHonest, IsHonestAs, IsNextAct, IsPassed, IsThere, IsUnsaid, IsWhy, IsWithin, LeavesVolumes, LosesAs, MayLoseCopy, PrintsNone, StaysAs, StopsUnsaid, arms_by, arms_then, cut_in, cut_of, is_replaced, is_takeover, is_work, loses_then, named_as, named_by, names_in, printed_at, same_device, taking}
 pub use Rattle.mas_run.specs.LinesAt.{LineAt, admitted_at, pieces_as, pieces_at, play_as, played_at}
-pub use Rattle.mas_run.specs.LinesDone.{LineDone, LineIsPlayed}
-pub use Rattle.mas_run.specs.LinesLeft.{AreCounted, flown_of, scene_as, HasLeft, HasLeftAs, IsCutBy, IsCutIn as LinesLeftIsCutIn, LeavesAt, LeftAt, LineIsLeft, left_as, left_at as linesleft_left_at, seen_of}
-pub use Rattle.mas_run.specs.LinesPlayed.{HasPlayedLine, PassesLines, PlayedLines, PlayedLine, here_at, is_of_member, line_by, there_at}
+pub use Rattle.mas_run.specs.LinesDone.{AreUpSince, LineDone, LineIsPlayed}
+pub use Rattle.mas_run.specs.LinesLeft.{ActsAs, AreCounted, flown_of, scene_as, HasLeft, HasLeftAs, IsCutBy, IsCutIn as LinesLeftIsCutIn, LeavesAt, LeftAt, LineIsLeft, left_as, left_at as linesleft_left_at, seen_of}
+pub use Rattle.mas_run.specs.LinesPlayed.{HasPlayedLine, PassesLines, PlayedLines, PlayedLine, here_at, is_of_member, line_by, there_at, Known}
 pub use Rattle.mas_run.specs.Passed.{AreEach, ArePassed, GoesOn, Here, IsNext, IsNextBy, LeaveVolumes, Passed, TakeNone, There, arms_after, here_after, line_of, loses_after}
 pub use Rattle.mas_run.specs.Refusals.{IsSaid, calm as refusals_calm, refusal_before_play, said_by, steps_of}
-pub use Rattle.mas_run.specs.Renewing.{Begins, BeginsAndEnds, CopiesAt, RenewsAs, RenewsBy, copies_at, known_by}
+pub use Rattle.mas_run.specs.Renewing.{Began, BeganAndEnded, CopiesAt, IsInLine, NoneBegan, Renewing, renewed_by, RenewsAs, RenewsBy, CameTo, copies_at, known_by}
 pub use Rattle.mas_run.specs.Runs.{EndsAs, HasLost, HasLostSince, HasSteps, HavePassed, IsPlay, IsRun, LinesBegun, LinesEnded, NonePassed, ReplacesNone, RunResult, WerePlayed, begun_after, IsOpenForLines, ended_with, run_result, starts, stops}
 pub use Rattle.mas_run.specs.Shapes.{IsShapedAs, IsTaskShaped, holder_as}
 pub use Rattle.mas_run.specs.Statuses.{AreLeftAlone, CannotStop, IsLeftAlone, IsStill, TakesNone, resets_in}
@@ -63,9 +63,10 @@ pub use Rattle.member_decks.specs.Keeping.{CopyCauses}
 pub use Rattle.member_decks.specs.Steps.{AreOf, IsFoundLost}
 pub use Rattle.member_lines.proofs.Earlier.{earlier_kept}
 pub use Rattle.member_lines.specs.Admissions.{AreFewUnits, admission_of, tested_as}
-pub use Rattle.member_lines.specs.Closes.{ActsOnce, Closes, HasCause, HasClosed, HasClosedBy, IsCutAs, IsOneAct, IsSayer, IsTested, SaysStopped, at_line, before_line, failed, freed_by, left_at, stopped_said, stopped_so}
-pub use Rattle.member_lines.specs.Locks.{IsSeated, IsUnseated, SeatsAndCloses, SeatsBy, seat_cut}
+pub use Rattle.member_lines.specs.Closes.{ActsOnce, Closes, HasCause, HasClosed, HasClosedBy, HasSaid, ended_by, IsCutAs, IsOneAct, IsSayer, IsTested, SaysStopped, at_line, before_line, failed, freed_by, left_at, stopped_said, stopped_so}
+pub use Rattle.member_lines.specs.Locks.{HasNoSeat, HasSeat, SeatsAndCloses, SeatsBy}
 pub use Rattle.member_node.proofs.CourseLemmas.{grow_rose, left, no, papers_none, papers_on, rose_grow, rose_later, rose_more, stay_both, stay_more, stay_none, stay_then, wires_none, wires_then}
+pub use Rattle.member_node.proofs.ReadLemmas.{on_ok}
 pub use Rattle.member_node.proofs.SpareLemmas.{spares_for, spares_none, spares_then}
 pub use Rattle.member_node.proofs.WriteLemmas.{none_out, run_append}
 pub use Rattle.member_node.specs.Spares.{Spares, is_stop, stopped_in}
@@ -92,6 +93,7 @@ pub use Rattle.member_resets.specs.WhyLost.{CouldNotStay, IsWhyLost}
 pub use Rattle.member_sittings.specs.Gates.{IsAtGate, IsAtSeat, IsOpen, MayTakeSeat}
 pub use Rattle.member_sittings.specs.Sat.{CopiesActed, begins as sat_begins, seated_in}
 pub use Rattle.member_sittings.specs.Whole.{HasStepKept, HasUntold, HoldsLock, IsAtRest, IsGivable, IsSeat, first_half, queue_of, second_half}
+pub use Rattle.member_steps.proofs.LineLemmas.{by_test}
 pub use Rattle.member_steps.proofs.ReadLemmas.{between_by, low_later, pages_of_run}
 pub use Rattle.member_steps.specs.Noting.{OtherNotesStay}
 pub use Rattle.member_steps.specs.Saying.{OnConsole}
@@ -130,7 +132,6 @@ pub use Rattle.spool_plant.specs.Acts.{Arms, Loses}
 pub use Rattle.spool_plant.specs.View.{Disk as DiskView, World, disk_now}
 pub use Rattle.spool_plant.specs.declared.plant.Fuse.{Fuse}
 pub use Rattle.spool_plant.specs.declared.plant.Part.{Part}
-pub use Rattle.spool_plant.specs.declared.plant.Part.TheVariants.{Wire}
 pub use Rattle.step_turns.specs.Courses.{holder_then, sittings_most, task_most}
 pub use Rattle.step_turns.specs.Entries.{all_entries, given_in, reply_to}
 pub use Rattle.step_turns.specs.Examples.{calm, text_of as examples_text_of, with_text}
@@ -148,3 +149,8 @@ pub use Rattle.step_turns.specs.declared.states.Release.TheVariants.{Inner, Keep
 pub use Rattle.step_turns.specs.declared.states.State.{State}
 pub use Rattle.step_turns.specs.declared.states.State.TheVariants.{Rested, Told}
 pub use Rattle.step_turns.specs.declared.states.Task.TheVariants.{Give}
+pub use Rattle.member_node.specs.declared.member.NodeNo.TheVariants.{BothLost, ConsoleFault, Halted, NoMemory}
+pub use Rattle.script_lang.specs.declared.types.Ask.TheVariants.{Line as AskLine, Lose, Replace, Stop, StopIn}
+pub use Rattle.mas_types.specs.declared.commands.Command.TheVariants.{Load, Reset}
+pub use Rattle.mas_types.specs.declared.answers.Closing.TheVariants.{Down, Reply as ReplyClosing, Stopped}
+pub use Rattle.mas_types.specs.declared.commands.Reply.TheVariants.{Plain as PlainReply}

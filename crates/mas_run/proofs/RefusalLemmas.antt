@@ -1,5 +1,5 @@
 -- What is refused before play, and what is answered.
-use Rattle.mas_run.proofs.Names.{◌≡◌, ⊎_elim, ℕ, Bool, false, List, [], Result, Err, refl, sym, subst, Status, Script, Step, ScriptSaid as Said, View, Rose, refused_sizes, Answers, is_refusal, IsPlayedOut, refusal_of, refusal_before_play, IsSaid, AreLeftAlone, IsStill, TakesNone, IsCaused}
+use Rattle.mas_run.proofs.Names.{◌≡◌, ⊎_elim, ℕ, Bool, false, List, [], refl, sym, subst, Status, Script, Step, ScriptSaid as Said, View, Rose, refused_sizes, Answers, is_refusal, IsPlayedOut, refusal_of, refusal_before_play, IsSaid, AreLeftAlone, IsStill, TakesNone, IsCaused}
 use Rattle.mas_types.specs.Lists.{first_some}
 use Rattle.mas_types.specs.declared.answers.Status.TheVariants as status
 
@@ -19,6 +19,3 @@ ends cold status.ConsoleFault tells steps before after old new fine source cause
 ends cold (status.NotFormatted first second) tells steps before after old new fine source caused still alone = fine
 ends cold (status.DeviceSize dev size) tells steps before after old new fine source caused still alone = fine
 ends cold _ tells steps before after old new fine source caused still alone = absurd (cc)
-
-pub err_is : {T : Type 0} (x y : Status) → (let r : Result T Status = Err x in r) ≡ Err y → x ≡ y
-err_is x y e = cc

@@ -1,14 +1,12 @@
 -- Bytes on lines to other nodes: what a line of a script gives and takes, from what its step does.
-use Rattle.mas_run.proofs.Names.{⊎_elim, ◌≡◌, ◌≢◌, ◌⊎◌, inl, inr, ℕ, zero, suc, ◌+◌, ◌*◌, true, false, List, [], ◌∷◌, ◌++◌, append-nil, drop, length, take, Option, Some, None, Result, Ok, refl, sym, ◌∙◌, ap, subst, arith, ◌-◌, ◌≤◌, ◌<◌, append_assoc, set, slice_get, drop-append_seam, MemberId, Config, Queue, is_member, run, Book, is_stopped, Ask, SameWires, View, taken_now, World, PlantGhosts, Parts, Finds, holder_then, sittings_most, all_entries, given_in, reply_to, Exchange, Found, Holder, Offer, State, Away, Fresh, Task, Line as Node, Work, Wait, waits_in, GivesOnly, HearsAtFirst, HearsIn, HearsStep, TakesNothing, line_served, IsElsewhere, NodeNo, wires_then, Admission, Denied, Plays, Refused, Piece, piece_at, pieces_from, unless_told, count_then, Sight, LineAt, Carries, HeardFirst, HeardIn, stream_since, waits_as, Completes, HasRead, AreReaders, reader_place, get_or-set_other, get_or-set_same, length-set, set-get_or, IsLine, wires_most, ReadsAnyPieces, seated, Comes, LineCame}
+use Rattle.mas_run.proofs.Names.{get_or-set_same, ⊎_elim, ◌≡◌, ◌≢◌, ◌⊎◌, inl, inr, ℕ, zero, suc, ◌+◌, ◌*◌, true, false, List, [], ◌∷◌, ◌++◌, append-nil, drop, length, take, Option, Some, None, Result, Ok, refl, sym, ◌∙◌, ap, subst, arith, ◌-◌, ◌≤◌, ◌<◌, append_assoc, set, slice_get, drop-append_seam, MemberId, Config, Queue, is_member, run, Book, is_stopped, Ask, SameWires, View, taken_now, PlantGhosts, Parts, Finds, holder_then, sittings_most, all_entries, given_in, reply_to, Exchange, Found, Holder, Offer, State, Away, Fresh, Task, Line as Node, Work, Wait, waits_in, GivesOnly, HearsAtFirst, HearsIn, HearsStep, TakesNothing, line_served, IsElsewhere, NodeNo, wires_then, Admission, Denied, Plays, Refused, Piece, piece_at, pieces_from, unless_told, count_then, Sight, LineAt, Carries, HeardFirst, HeardIn, stream_since, waits_as, Completes, HasRead, AreReaders, reader_place, length-set, set-get_or, IsLine, wires_most, ReadsAnyPieces, seated, Comes, World, AskLine, Load}
 use Rattle.nje_frames.specs.declared.frames.Frame.{Frame}
 use Rattle.nje_frames.specs.Streams.{HasFed, frames_in, open_end}
 use Rattle.step_turns.specs.Serving.{offered, taken_most}
 use Rattle.std.proofs.lemmas.Bool.Decides.{eqb_tells}
-use Rattle.std.proofs.lemmas.Option.{get_or_from_slice_get, same_Some as some_same, slice_get-get_or}
+use Rattle.std.proofs.lemmas.Option.{get_or_from_slice_get, slice_get-get_or, same_Some as some_same}
 use Rattle.run_opening.proofs.ReaderLemmas.{Readers, place_within}
 use Rattle.member_resets.proofs.Wiring.{gives_still, gives_then, taken_wider, takes_none, takes_still, takes_then}
-use Rattle.mas_types.specs.declared.commands.Command.TheVariants as command
-use Rattle.script_lang.specs.declared.types.Ask.TheVariants as asks
 
 -- NOTHING GIVEN OR TAKEN
 
@@ -22,16 +20,12 @@ carries_none since l (Denied why) given old new none same heard = (none, same)
 carries_none since l _ given old new none same heard = same
 
 -- a line that asks for something else serves none
-pub serves_none : {config : Config} {b : Book} {by : MemberId} {what : Ask} {a : Admission} → Comes config b by what a → ((n : ℕ) → what ≢ asks.Line n) → (line : ℕ) → a ≢ Plays (Node line)
-serves_none (LineCame n got) other line same = absurd (other n refl)
-serves_none _ other line same = absurd (cc)
+pub serves_none : {config : Config} {b : Book} {by : MemberId} {what : Ask} {a : Admission} → Comes config b by what a → ((n : ℕ) → what ≢ AskLine n) → (line : ℕ) → a ≢ Plays (Node line)
+serves_none q0 other line same = grind arith
 
 -- a line that serves none
 pub carries_still : (since : ℕ) (l : LineAt) (a : Admission) (given : List ℕ) (old new : View) → ((line : ℕ) → a ≢ Plays (Node line)) → Carries since l a given old new → SameWires old new
-carries_still since l (Plays (Node line)) given old new other c = absurd (other line refl)
-carries_still since l (Refused sayer end) given old new other c = c.1
-carries_still since l (Denied why) given old new other c = c.1
-carries_still since l _ given old new other c = c
+carries_still since l q2 given old new other c = grind arith
 
 -- OTHER ACTS AFTER IT
 
@@ -55,6 +49,11 @@ carries_later since l (Refused sayer end) given old mid new same c = (c.0, wires
 carries_later since l (Denied why) given old mid new same c = (c.0, wires_then old mid new c.1 same)
 carries_later since l _ given old mid new same c = wires_then old mid new c same
 
+-- where a step waits first that serves a line: for the exchange on that line
+abbrev pub WaitsOnLine : Task → List Wait → Type 0
+WaitsOnLine (Node line) waits = (w : Wait) (more : List Wait) → waits ≡ w ∷ more → (offer : Option Offer) × (w.state ≡ Away (Exchange line offer))
+WaitsOnLine _ waits = Unit {0}
+
 -- WHAT A TASK HEARD, by a reader that has read the stream
 
 -- the same is open to a reader
@@ -71,23 +70,15 @@ module _ (since : ℕ) (by : MemberId) (old new : View) (was is : Option (List �
       subst (λ (s : List ℕ). Completes s bytes frames) (sym stream)
       (⊎_elim (λ reads. rw (reads.gained, same_rest was reads.rest read.rest reads.was (some_same was (Some read.rest) read.is)) (read.goes_on bytes)) (λ none. rw (none.0, none.1, append-nil, append-nil) refl) heard)
 
-  abbrev Read : ℕ → Type 0
-  Read line = HasRead ((old.world since).taken line by.0) (taken_now old line by.0) (Some was)
-
   -- a step that waits first for the exchange on a line
   module _ (line : ℕ) where
-    abbrev IsExchange : List Wait → Type 0
-    IsExchange ws = (w : Wait) (more : List Wait) → ws ≡ w ∷ more → (offer : Option Offer) × (w.state ≡ Away (Exchange line offer))
-
-    heard_by : Read line → (result : Result (Unit {0}) NodeNo) (finds : Finds) (ws : List Wait) → IsExchange ws → HearsAtFirst by old new was is result finds ws → HeardFirst since by old new finds ws
+    heard_by : HasRead ((old.world since).taken line by.0) (taken_now old line by.0) (Some was) → (result : Result (Unit {0}) NodeNo) (finds : Finds) (ws : List Wait) → WaitsOnLine (Node line) ws → HearsAtFirst by old new was is result finds ws → HeardFirst since by old new finds ws
     heard_by read result finds [] first h = tt
     heard_by read result finds (w ∷ ws) first h =
         let on = first w ws refl in
         let found = finds w.queue w.state in
         let heard = subst (λ (s : State). HearsIn by old new was is s found) on.1 h in
         subst (λ (s : State). HeardIn since by old new s found) (sym on.1) (heard.0, frames_completed line heard.0.bytes found.frames read heard.1.read)
-
--- WHERE A STEP WAITS FIRST that serves a line: for the exchange on that line
 
 first_state : (more : ℕ) (sight : Sight) (count : ℕ) (Q : Queue) (h : Holder) (line k : ℕ) (w : Wait) (ws : List Wait)
     → waits_in (take k (pieces_from (suc more) sight count Q h (Fresh (Node line)))) Q ≡ w ∷ ws → (offer : Option Offer) × (w.state ≡ Away (Exchange line offer))
@@ -99,7 +90,7 @@ first_state more sight count Q h line (suc k) w ws same =
     let v : Wait = record { queue = run Q es; state = p.sitting.next } in
     let so : v ∷ waits_in (take k rest) (run Q es) ≡ w ∷ ws = same in
     let is : v ≡ w = cc in
-    let c = command.Load line in
+    let c = Load line in
     (offered (run Q (given_in Q h.by h.step (c ∷ []))) line (reply_to Q h.by c), ap (λ (k : Wait). k.state) (sym is))
 
 -- A TASK: what its step gave and heard, by a reader that has read the stream of its line
@@ -108,10 +99,6 @@ first_state more sight count Q h line (suc k) w ws same =
 abbrev pub ReadsLine : {P C : Type 0} (plants : PlantGhosts P) (x z : Parts P C) → MemberId → Task → Option (List ℕ) → Type 0
 ReadsLine plants x z by (Node line) reader = HasRead (((plants.view x.plant).world x.since).taken line by.0) (taken_now (plants.view z.plant) line by.0) (Some reader)
 ReadsLine plants x z by _ reader = Unit {0}
-
-abbrev pub WaitsOnLine : Task → List Wait → Type 0
-WaitsOnLine (Node line) waits = (w : Wait) (more : List Wait) → waits ≡ w ∷ more → (offer : Option Offer) × (w.state ≡ Away (Exchange line offer))
-WaitsOnLine _ waits = Unit {0}
 
 pub waits_on : (sight : Sight) (count : ℕ) (Q : Queue) (h : Holder) (task : Task) (ps : List Piece) (k : ℕ) → ps ≡ pieces_from (sittings_most (Fresh task)) sight count Q h (Fresh task)
     → WaitsOnLine task (waits_in (take k ps) Q)
@@ -177,25 +164,19 @@ pub set_still : (rs : Readers) (j : ℕ) (was is : Option (List ℕ)) → slice_
 set_still rs j was is here same =
     ap (λ (r : Option (List ℕ)). set rs j r) (same ∙ sym (get_or_from_slice_get rs j was None here)) ∙ set-get_or rs j None
 
--- THEIR PLACES
+-- with another one at a place
+pub own_set : {X : Type 0} (xs : List X) (j : ℕ) (x : X) → j < length xs → slice_get (set xs j x) j ≡ Some x
+own_set xs j x less = slice_get-get_or (set xs j x) j x (subst (λ (n : ℕ). j < n) (sym (length-set xs j x)) less) ∙ ap Some (get_or-set_same xs j x x less)
 
-same_place : (m by : MemberId) (line n : ℕ) → 1 ≤ m.0 → 1 ≤ by.0 → IsLine line → IsLine n → reader_place m line ≡ reader_place by n → (m.0 ≡ by.0) × (line ≡ n)
-same_place m by line n some more inside within same =
-    let number : m.0 ≡ by.0 = omega (arith, some, more, inside.0, inside.1, within.0, within.1, same) in (number, omega (arith, number, inside.0, inside.1, within.0, within.1, same))
+pub other_set : {X : Type 0} (xs : List X) (j k : ℕ) (x : X) → k ≢ j → slice_get (set xs j x) k ≡ slice_get xs k
+other_set [] j k x apart = refl
+other_set (y ∷ xs) zero zero x apart = absurd (apart refl)
+other_set (y ∷ xs) (suc j) (suc k) x apart = other_set xs j k x (λ same. apart (ap suc same))
+other_set (y ∷ xs) _ _ x apart = refl
 
 own_or_else : (by m : MemberId) (n line : ℕ) → ((m ≡ by) × (line ≡ n)) ⊎ IsElsewhere (Some n) by line m.0
 own_or_else by m n line = ⊎_elim (λ mine. ⊎_elim (λ here. inl (ap (λ (k : ℕ). let q : MemberId = record { 0 = k } in q) mine.1, here.1)) (λ other. inr (inl (λ same. other.1 (some_same line n (sym same))))) (eqb_tells line n))
     (λ other. inr (inr other.1)) (eqb_tells m.0 by.0)
-
-own_reader : (rs : Readers) (j : ℕ) (r : Option (List ℕ)) → j < length rs → slice_get (set rs j r) j ≡ Some r
-own_reader rs j r less =
-    let many : length (set rs j r) ≡ length rs = length-set rs j r in
-    slice_get-get_or (set rs j r) j None (omega (arith, less, many)) ∙ ap (λ (k : Option (List ℕ)). Some k) (get_or-set_same rs j r None less)
-
-other_reader : (rs : Readers) (j k : ℕ) (r : Option (List ℕ)) → k < length rs → k ≢ j → slice_get (set rs j r) k ≡ slice_get rs k
-other_reader rs j k r less other =
-    let many : length (set rs j r) ≡ length rs = length-set rs j r in
-    slice_get-get_or (set rs j r) k None (omega (arith, less, many)) ∙ ap (λ (q : Option (List ℕ)). Some q) (get_or-set_other rs j k r None other) ∙ sym (slice_get-get_or rs k None less)
 
 -- WHAT THEY HAVE READ, once a line of a script was played
 
@@ -236,29 +217,32 @@ module _ {P C : Type 0} (plants : PlantGhosts P) (x y : Parts P C) (base : y.bas
     abbrev place : ℕ
     place = reader_place by n
 
-    inside_all : (m : MemberId) (line : ℕ) → is_member x.base.config m ≡ true → IsLine line → reader_place m line < length rs
-    inside_all m line member inside =
-        let seat = seated x.base.config x.book m booked member in
-        let few : m.0 ≤ x.base.config.members = subst (λ (k : ℕ). m.0 ≤ k) booked seat.1 in
-        subst (λ (k : ℕ). reader_place m line < k) (sym read.many) (place_within m line x.base.config.members seat.0 few inside)
-
     abbrev ReadAt : MemberId → ℕ → Type 0
     ReadAt m line = HasRead (first y line m) (taken_now (v y) line m.0) (slice_get (set rs place is) (reader_place m line))
 
     each_now : plants.tells → (m : MemberId) (line : ℕ) → is_member x.base.config m ≡ true → IsLine line → is_stopped y.book m ≡ false → ReadAt m line
     each_now t m line member inside is_up = ⊎_elim own_now else_now (own_or_else by m n line) where
+      less : reader_place by n < length rs
+      less =
+          let seat = seated x.base.config x.book by booked its in
+          let few : by.0 ≤ x.base.config.members = subst (λ (k : ℕ). by.0 ≤ k) booked seat.1 in
+          subst (λ (k : ℕ). reader_place by n < k) (sym read.many) (place_within by n x.base.config.members seat.0 few its_line)
+
       own_now : (m ≡ by) × (line ≡ n) → ReadAt m line
       own_now (mine, here) =
           subst (λ (q : MemberId). ReadAt q line) (sym mine) (subst (λ (k : ℕ). ReadAt by k) (sym here)
-          (subst (λ (r : Option (Option (List ℕ))). HasRead (first y n by) (taken_now (v y) n by.0) r) (sym (own_reader rs place is (inside_all by n its its_line)))
+          (subst (λ (r : Option (Option (List ℕ))). HasRead (first y n by) (taken_now (v y) n by.0) r) (sym (own_set rs place is less))
           (subst (λ (b : List ℕ). HasRead b (taken_now (v y) n by.0) (Some is)) (sym (first_same t n by)) (own t (subst (λ (q : MemberId). is_stopped y.book q ≡ false) mine is_up)))))
 
       else_now : IsElsewhere (Some n) by line m.0 → ReadAt m line
       else_now elsewhere =
-          let seat = seated x.base.config x.book m booked member in
-          let mine = seated x.base.config x.book by booked its in
-          let apart : reader_place m line ≢ place = λ same. let so = same_place m by line n seat.0 mine.0 inside its_line same in ⊎_elim (λ other. other (ap (λ (k : ℕ). Some k) (sym so.1))) (λ other. other so.0) elsewhere in
-          subst (λ (r : Option (Option (List ℕ))). HasRead (first y line m) (taken_now (v y) line m.0) r) (sym (other_reader rs place (reader_place m line) is (inside_all m line member inside) apart))
+          let some : 1 ≤ m.0 = (seated x.base.config x.book m booked member).0 in
+          let more : 1 ≤ by.0 = (seated x.base.config x.book by booked its).0 in
+          let apart : reader_place m line ≢ place = λ same.
+          let number : m.0 ≡ by.0 = omega (arith, some, more, inside.0, inside.1, its_line.0, its_line.1, same) in
+          let here : line ≡ n = omega (arith, number, inside.0, inside.1, its_line.0, its_line.1, same) in
+          ⊎_elim (λ other. other (ap (λ (k : ℕ). Some k) (sym here))) (λ other. other number) elsewhere in
+          subst (λ (r : Option (Option (List ℕ))). HasRead (first y line m) (taken_now (v y) line m.0) r) (sym (other_set rs place (reader_place m line) is apart))
           (moved t m line (slice_get rs (reader_place m line)) (else_taken t line m.0 elsewhere) (read.each t m line member inside (up t m is_up)))
 
     pub readers_served : AreReaders plants y (set rs place is)

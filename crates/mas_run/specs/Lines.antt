@@ -220,8 +220,8 @@ printed_at w m = if w.line.step.by.0 == m then w.played.outcome.printed else []
 
 -- A LINE THAT WAS PLAYED, on a plant that showed `old` before and `new` after it, with these batches of its own and
 -- this answer.
-pub record IsPassed (told : Type 0) (w : Account) (own : List Batch) (old new : View) (answer : Result (Unit {0}) NodeNo)
-    : Type 0 where
+pub record IsPassed (told : Type 0) (w : Account) (own : List Batch) (old new : View)
+    (answer : Result (Unit {0}) NodeNo) : Type 0 where
   pub goes : Proceeds old new
   pub given : IsGiven told w.line old new
   pub honest : told → IfOfMember w.line.step.what (IsHonestAs w.line (admitted_at w.line) w.cut old new)

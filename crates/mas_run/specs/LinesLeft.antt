@@ -44,14 +44,22 @@ pub record Seen : Type 0 where
 abbrev pub copies_seen : Seen → CopiesAt
 copies_seen x = record { renewals = x.renewals; view = x.view }
 
+-- What a line of a member did to the plant, whatever it gave: nobody was stopped but its member, and it only where the
+-- answer says so.
+pub record ActsAs (by : MemberId) (a : Admission) (old new : View) (result : Result (Unit {0}) NodeNo) : Type 0 where
+  pub goes : Proceeds old new
+  pub stays : (d : Dev) → is_replaced d a ≡ false → StaysLost d old new
+  pub arms : (m : ℕ) → new.arms m ≡ old.arms m
+  pub spares : Spares by.0 (stopped_in result) old new
+  pub stopped : result ≡ Err no_node.Halted → Rose (old.stops by.0) (new.stops by.0)
+  pub failed : result ≡ Err no_node.ConsoleFault → Rose (old.faults Console) (new.faults Console)
+
 module _ (reads : List ℕ → Option (List ℕ)) where
   -- The line that was admitted so, on the value from before it was tested to after it was played. Where the answer is
   -- Halted its member is stopped in the book, and nothing was said of that yet.
   pub record LeavesAs (told : Type 0) (l : LineAt) (a : Admission) (x y : Seen) (after : Book)
       (result : Result (Unit {0}) NodeNo) : Type 0 where
-    pub goes : Proceeds x.view y.view
-    pub stays : (d : Dev) → is_replaced d a ≡ false → StaysLost d x.view y.view
-    pub arms : (m : ℕ) → y.view.arms m ≡ x.view.arms m
+    pub acts : ActsAs l.step.by a x.view y.view result
     pub shaped : told ⊎ IsShapedAs l x.view y.view a
     pub right : told → ArePiecesOf l.scene l.step.by l.number a l.given
     pub honest : told → IsHonestAs l a l.given.sight.cut x.view y.view
@@ -59,9 +67,6 @@ module _ (reads : List ℕ → Option (List ℕ)) where
     pub cut : IsCutBy result (pieces_as l a) l.given.sight.cut
     pub tight : IfIdle (is_work a) (AtCut (IsTight (ended_as result)) l.given.sight.cut (pieces_as l a))
     pub broke : told → AtCut (IsBroken (ended_as result)) l.given.sight.cut (pieces_as l a)
-    pub spares : Spares l.step.by.0 (stopped_in result) x.view y.view
-    pub stopped : result ≡ Err no_node.Halted → Rose (x.view.stops l.step.by.0) (y.view.stops l.step.by.0)
-    pub failed : result ≡ Err no_node.ConsoleFault → Rose (x.view.faults Console) (y.view.faults Console)
     -- the journal, with what was found of a batch in flight, and the book, unless the run ends here
     pub own : List Batch
     pub at : ℕ

@@ -1,7 +1,8 @@
 -- What a line leaves of the shared value and its members, and what lines do one after another.
 use Rattle.mas_run.specs.Names.{MemberId, Ask, Step, View, PlantGhosts, Ghosts as CopyGhosts, SteadyGhosts, Complex, Parts, parts_of, NodeNo, journal_of, Scene, Given, line_with, IsShown}
-use Rattle.std.specs.Prelude.{ℕ, Bool, true, false, List, Result, OnOk}
+use Rattle.std.specs.Prelude.{◌≡◌, ℕ, Bool, true, false, List, Result, OnOk}
 use Rattle.script_lang.specs.declared.types.Ask.TheVariants as ask
+use Rattle.mas_run.specs.Copies.{CopiesKept}
 use Rattle.mas_run.specs.Passed.{Here, IsNext, Passed, There}
 
 -- a line of this member, and whether it is a line of one: all but a stop, one that is armed, and the loss of a device
@@ -13,6 +14,11 @@ is_of_member ask.Stop = false
 is_of_member (ask.StopIn what n) = false
 is_of_member (ask.Lose dev) = false
 is_of_member _ = true
+
+-- what is known of content: all that the plant shows, or nothing
+abbrev pub Known : Bool → Type 0
+Known true = Unit {0}
+Known false = ⊥
 
 module _ {P C : Type 0} (plants : PlantGhosts P) (copies : CopyGhosts C) where
   abbrev v : Parts P C → View
@@ -58,8 +64,10 @@ module _ {P C : Type 0} {plants : PlantGhosts P} {steadies : SteadyGhosts C} {co
       → Passed told (here_at plants copies at S (parts_of x)) steps many (there_at plants copies (parts_of y) result)
 
   -- So many of these lines were played.
-  pub record PlayedLines (tells : Type 0) (at : ℕ) (steps : List Step) (x y : Complex P C plants steadies copies)
+  pub record PlayedLines (at : ℕ) (steps : List Step) (x y : Complex P C plants steadies copies)
       (result : Result (Unit {0}) NodeNo) : Type 0 where
+    pub base : y.base ≡ x.base
+    pub since : y.since ≡ x.since
     pub many : ℕ
-    pub bare : PassesLines ⊥ at steps many x y result
-    pub told : tells → PassesLines (Unit {0}) at steps many x y result
+    pub lines : (all : Bool) → (Known all → plants.tells) → PassesLines (Known all) at steps many x y result
+    pub kept : CopiesKept x y result

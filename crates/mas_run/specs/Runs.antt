@@ -31,8 +31,8 @@ EndsAs status.Done cut many lines = (cut ≡ None) × (many ≡ lines)
 EndsAs _ cut many lines = (1 ≤ many) × (cut ≢ None)
 
 -- THE LINES of a run: with what they began, the first of them at a queue, on a plant that showed this, in a run whose
--- first moment is this, and whose journal had these batches of its opening; and how they ended: so many were played, the
--- journal has these batches after its opening, copies were replaced at these moments, and this is its status
+-- first moment is this, and whose journal had these batches of its opening; and how they ended: so many were played,
+-- the journal has these batches after its opening, copies were replaced at these moments, and this is its status
 
 pub record LinesBegun : Type 0 where
   pub steps : List Step

@@ -1,11 +1,11 @@
 //! A run that has begun: its shared value and its members, and the lines of a script that are played on them.
-ghost use Rattle.mas_run.specs.Names.{steps_most, Lose, Stop, StopIn, IsMember, left_of, granted_by, IsPlayed};
-ghost use Rattle.std.specs.Prelude.{◌≡◌, ◌≤◌, ◌-◌, length, true, Ok, OnOk, All};
+ghost use Rattle.mas_run.specs.Names.{steps_most, IsMember, left_of, granted_by, IsPlayed};
+ghost use Rattle.std.specs.Prelude.{◌≡◌, ◌≤◌, ◌-◌, length, true, OnOk, All};
 ghost use Rattle.mas_run.specs.Wires.{task_place};
 
 use mas_complex::{Complex, Steady};
 use mas_types::limits::WIRES_MOST;
-use mas_types::{Dev, List, MemberId};
+use mas_types::{List, MemberId};
 use member_lines::{
     Admission, Closed, admit, arm_line, free_line, lock_line, replace_line, say_denied,
     say_refused, say_stopped, stop_line,
@@ -14,7 +14,7 @@ use member_node::{Member, NodeNo};
 use member_resets::{play_task, reset_line, take_line};
 use nje_frames::{FrameReader, law_of_streams};
 use script_lang::{Ask, Step};
-use spool_plant::{Fuse, Plant};
+use spool_plant::Plant;
 use std::alloc::Global;
 use step_turns::{Grant, Holder, Task};
 
@@ -74,7 +74,6 @@ fn reader_of(by: MemberId, task: &Task) -> usize
 }
 
 impl<P: Plant + Drop, C: Steady + Drop> Running<P, C> {
-    ghost use Rattle.mas_run.specs.Copies.{CopiesKept};
     ghost use Rattle.member_resets.specs.Settling.{IfRuns};
     ghost use Rattle.mas_run.specs.LinesDone.{LineDone, LineIsPlayed};
     ghost use Rattle.mas_run.specs.LinesPlayed.{PlayedLines, is_of_member, line_by};
@@ -106,41 +105,31 @@ impl<P: Plant + Drop, C: Steady + Drop> Running<P, C> {
             return Err(NodeNo::NoMemory);
         };
         let complex = &mut self.complex;
-        // Of a member that is none nothing but the refusal is looked at.
-        let at = (by.0 as usize).saturating_sub(1);
         match admission {
             Admission::Refused { sayer, end } => {
                 say_refused(alloc, complex, Closed { by, step, sayer }, &end)
             }
             Admission::Denied(why) => say_denied(alloc, complex, by, step, why),
             Admission::Frees => free_line(alloc, complex, by, step),
-            Admission::Plays(task) => {
-                let holder = holder_of(complex, by, step, grant);
-                law_of_streams();
-                let place = reader_of(by, &task);
-                let reader = self.readers.item_mut(place);
-                play_task(
-                    self.members.item_mut(at),
-                    alloc,
-                    complex,
-                    reader,
-                    holder,
-                    task,
-                )
-            }
-            Admission::Resets(of) => {
-                let holder = holder_of(complex, by, step, grant);
-                reset_line(self.members.item_mut(at), alloc, complex, holder, of)
-            }
-            Admission::Replaces(dev) => {
-                let holder = holder_of(complex, by, step, grant);
-                replace_line(self.members.item_mut(at), alloc, complex, holder, dev)
-            }
-            Admission::TakesOver(of) => {
-                take_line(self.members.item_mut(at), alloc, complex, step, of)
-            }
-            Admission::Locks => lock_line(self.members.item_mut(at), alloc, complex, step),
             Admission::Unplayed => unreachable!(),
+            acts => {
+                let at = (by.0 as usize).saturating_sub(1);
+                let member = self.members.item_mut(at);
+                let holder = holder_of(complex, by, step, grant);
+                match acts {
+                    Admission::Plays(task) => {
+                        law_of_streams();
+                        let place = reader_of(by, &task);
+                        let reader = self.readers.item_mut(place);
+                        play_task(member, alloc, complex, reader, holder, task)
+                    }
+                    Admission::Resets(of) => reset_line(member, alloc, complex, holder, of),
+                    Admission::Replaces(dev) => replace_line(member, alloc, complex, holder, dev),
+                    Admission::TakesOver(of) => take_line(member, alloc, complex, step, of),
+                    Admission::Locks => lock_line(member, alloc, complex, step),
+                    _ => unreachable!(),
+                }
+            }
         }
     }
 
@@ -172,42 +161,6 @@ impl<P: Plant + Drop, C: Steady + Drop> Running<P, C> {
         }
     }
 
-    // A stop of a member between its acts, as a line with this number.
-    fn play_stop(&mut self, number: u32, by: MemberId)
-        requires few { number ≤ steps_most }
-        requires between { BetweenLines self.old.complex self.old.members number }
-        requires readers { HaveRead self.old.complex self.old.readers }
-        ensures line { LineIsPlayed self.old.complex self.new.complex self.new.members number
-            (line_by by Stop) (Ok tt) }
-        ensures heard { HaveRead self.new.complex self.new.readers }
-    {
-        stop_line(&mut self.complex, by);
-    }
-
-    // A stop of a member that is armed.
-    fn play_arm(&mut self, number: u32, by: MemberId, fuse: Fuse, count: u32)
-        requires few { number ≤ steps_most }
-        requires between { BetweenLines self.old.complex self.old.members number }
-        requires readers { HaveRead self.old.complex self.old.readers }
-        ensures line { LineIsPlayed self.old.complex self.new.complex self.new.members number
-            (line_by by (StopIn fuse count)) (Ok tt) }
-        ensures heard { HaveRead self.new.complex self.new.readers }
-    {
-        arm_line(&mut self.complex, by, fuse, count);
-    }
-
-    // The loss of a device.
-    fn play_loss(&mut self, number: u32, by: MemberId, dev: Dev)
-        requires few { number ≤ steps_most }
-        requires between { BetweenLines self.old.complex self.old.members number }
-        requires readers { HaveRead self.old.complex self.old.readers }
-        ensures line { LineIsPlayed self.old.complex self.new.complex self.new.members number
-            (line_by by (Lose dev)) (Ok tt) }
-        ensures heard { HaveRead self.new.complex self.new.readers }
-    {
-        self.complex.lose(dev);
-    }
-
     /// Plays a line with this number. A step of a member is tested first: whether its member is one of the
     /// configuration, and isn't stopped; what its deck says, or which member it resets; and whether the lock is to be
     /// had. Then it is played with the lock, which is given up at its end, unless LOCK took it and some of the hold is
@@ -232,15 +185,15 @@ impl<P: Plant + Drop, C: Steady + Drop> Running<P, C> {
     {
         match &line.what {
             Ask::Stop => {
-                self.play_stop(number, line.by);
+                stop_line(&mut self.complex, line.by);
                 Ok(())
             }
             Ask::StopIn(fuse, count) => {
-                self.play_arm(number, line.by, *fuse, *count);
+                arm_line(&mut self.complex, line.by, *fuse, *count);
                 Ok(())
             }
             Ask::Lose(dev) => {
-                self.play_loss(number, line.by, *dev);
+                self.complex.lose(*dev);
                 Ok(())
             }
             asked => self.play_asked(alloc, number, line.by, asked),
@@ -253,10 +206,7 @@ impl<P: Plant + Drop, C: Steady + Drop> Running<P, C> {
         requires played { All IsPlayed lines.now }
         requires between { BetweenLines self.old.complex self.old.members 1 }
         requires readers { HaveRead self.old.complex self.old.readers }
-        ensures base { self.new.complex.base ≡ self.old.complex.base }
-        ensures since { self.new.complex.since ≡ self.old.complex.since }
-        ensures played { PlayedLines P.tells 1 lines.now self.old.complex self.new.complex result }
-        ensures copies { CopiesKept self.old.complex self.new.complex result }
+        ensures { PlayedLines 1 lines.now self.old.complex self.new.complex result }
     {
         let mut number = 0;
         for line in lines {

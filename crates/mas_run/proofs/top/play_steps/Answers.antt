@@ -1,5 +1,5 @@
-use Rattle.mas_run.proofs.Names.{rules, ◌∙◌, ◌≤◌, sym, ap, subst, Ckpt1, Ckpt2, Queue, form_needs, page_count, AreRoomy, IsPlay, has_begun, proceeds_on, roomy_on, run_result}
-use Rattle.mas_run.proofs.RunLemmas.{run_of_lines, run_of_none, stepless_kept, stepless_run}
+use Rattle.mas_run.proofs.Names.{by_test, rules, ◌∙◌, ◌≤◌, sym, ap, subst, Ckpt1, Ckpt2, Queue, form_needs, page_count, AreRoomy, IsPlay, has_begun, proceeds_on, roomy_on, run_result}
+use Rattle.mas_run.proofs.RunLemmas.{run_of_lines, run_of_none, stepless_run}
 use Rattle.run_opening.proofs.WarmLemmas.{no, play_begins, play_not_source, play_not_text}
 use Rattle.mas_run.proofs.top.play_steps.Goals as goal
 
@@ -60,5 +60,6 @@ returns-clause-stepless g c none told =
     let P = g.P.Plant in
     let z = c.in-Err.ended in
     let e = c.in-Err.ensures.ended in
-    stepless_kept c.args.cold P.tells c.args.script (P.view c.args.plant) (run_result z.status z.base z.journal z.since (P.view z.plant)) none e.volumes
-    (λ has. run_of_none c.args.cold P.tells c.args.script z.status z.base z.journal z.since (P.view c.args.plant) (P.view z.plant) (e.none has)) told
+    let old = P.view c.args.plant in
+    let end = run_result z.status z.base z.journal z.since (P.view z.plant) in
+    by_test (has_begun z.base) (λ has. stepless_run c.args.cold P.tells c.args.script old end none (run_of_none c.args.cold P.tells c.args.script z.status z.base z.journal z.since old end.view (e.none has)) told) (e.volumes told)

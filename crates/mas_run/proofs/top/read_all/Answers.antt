@@ -1,6 +1,5 @@
-use Rattle.mas_run.proofs.Names.{◌∙◌, Err, sym, ap, err_from_is_err_and, refusals_calm as calm, said_by, said_answers, script_kind, script_source, unread_answers}
+use Rattle.mas_run.proofs.Names.{◌∙◌, Err, sym, ap, err_from_is_err_and, refusals_calm as calm, said_by, said_answers, script_kind, script_source, unread_answers, ◌≡◌}
 use Rattle.mas_run.proofs.AloneLemmas.{none_read}
-use Rattle.mas_run.proofs.RefusalLemmas.{err_is}
 use Rattle.mas_types.specs.declared.answers.Status.TheVariants as status
 use Rattle.mas_run.proofs.top.read_all.Goals as goal
 
@@ -15,7 +14,7 @@ returns-clause-refused g c = λ tells v. rw c.status_of_script.ensures
     (said_answers c.args.cold (said_by c.args.cold c.args.only (g.S.Source.left c.args.source.now)) v c.in-Err.why (rw (c.as_slice.ensures, c.in_ok-bytes.ensures.bytes tells) at c.in-Err.ensures.said))
 
 pub returns-clause-source : goal.returns-clause-source
-returns-clause-source g c is = absurd (script_source c.in-Err.why (sym c.status_of_script.ensures ∙ err_is c.status_of_script.result status.SourceFault is))
+returns-clause-source g c is = absurd (script_source c.in-Err.why (sym c.status_of_script.ensures ∙ (let same : c.status_of_script.result ≡ status.SourceFault = cc in same)))
 
 pub returns-in_err-bytes-clause-refused : goal.returns-in_err-bytes-clause-refused
 returns-in_err-bytes-clause-refused g c tells =

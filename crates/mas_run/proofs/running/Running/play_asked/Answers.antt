@@ -1,7 +1,6 @@
-use Rattle.mas_run.proofs.Names.{rules, refl, ◌≡◌, ◌+◌, ◌≤◌, ◌++◌, Ok, Err, sym, subst, in_flight, Parts, parts_of, unreserved_in, NodeNo, earlier_kept, IfRuns, AreKeptFrom, LineDone, HaveRead}
-use Rattle.member_node.specs.declared.member.NodeNo.TheVariants.{Halted}
+use Rattle.mas_run.proofs.Names.{rules, refl, ◌≡◌, ◌+◌, ◌≤◌, ◌++◌, Ok, Err, sym, subst, in_flight, Parts, parts_of, unreserved_in, NodeNo, earlier_kept, IfRuns, AreKeptFrom, LineDone, HaveRead, Halted}
+use Rattle.mas_run.proofs.LeftLemmas.{if_ok}
 use Rattle.mas_run.proofs.AskLemmas.{played_line, stopped_line, readers_said}
-use Rattle.mas_run.proofs.ClosesLemmas.{if_ok}
 use Rattle.mas_run.proofs.KnownLemmas.{few_by}
 use Rattle.mas_run.proofs.running.Running.play_asked.Given.{Over}
 use Rattle.mas_run.proofs.running.Running.play_asked.Goals.{In-Err-Halted}
@@ -48,9 +47,6 @@ pub returns-in-Ok-clause-line : goal.returns-in-Ok-clause-line
 returns-in-Ok-clause-line g c =
     played_line c.args.self.now.complex c.play_member.new.self.complex c.args.self.now.members c.play_member.new.self.members c.args.step c.args.by c.args.asked.now c.requires.member c.requires.between (Ok tt)
     (λ is. absurd (cc)) c.in-Ok.ensures.done
-
-pub returns-in-Ok-clause-heard : goal.returns-in-Ok-clause-heard
-returns-in-Ok-clause-heard g c = c.in-Ok.ensures.heard
 
 pub returns-in-Err-clause-line : goal.returns-in-Err-clause-line
 returns-in-Err-clause-line g c =

@@ -1,23 +1,23 @@
-use Rattle.mas_run.proofs.Names.{Ok, sym, subst, Ask, LineIsPlayed, line_by}
+use Rattle.mas_run.proofs.Names.{sym, subst, Ask, line_by}
+use Rattle.mas_run.proofs.MuteLineLemmas.{IsMuteLine, arm_mute, lose_mute, stop_mute}
 use Rattle.mas_run.proofs.running.Running.play_line.Goals as goal
 
-pub returns-in-Stop-clause-line : goal.returns-in-Stop-clause-line
-returns-in-Stop-clause-line g c =
-    subst (λ (w : Ask). LineIsPlayed c.args.self.now.complex c.play_stop.new.self.complex c.play_stop.new.self.members c.args.number (line_by c.args.line.now.by w) (Ok tt)) (sym c.in-Stop.is) c.play_stop.ensures.line
+pub returns-in-Stop : goal.returns-in-Stop
+returns-in-Stop g c =
+    let mute = subst (λ (w : Ask). IsMuteLine c.args.self.now.complex c.stop_line.new.complex c.args.self.now.members c.args.number (line_by c.args.line.now.by w)) (sym c.in-Stop.is)
+    (stop_mute c.args.self.now.complex c.stop_line.new.complex c.args.self.now.members c.args.number c.args.line.now.by c.requires.few c.requires.between c.stop_line.ensures) in
+    record { line = mute.line; heard = mute.heard c.args.self.now.readers c.requires.readers }
 
-pub returns-in-Stop-clause-heard : goal.returns-in-Stop-clause-heard
-returns-in-Stop-clause-heard g c = c.play_stop.ensures.heard
+pub returns-in-StopIn : goal.returns-in-StopIn
+returns-in-StopIn g c =
+    let e = c.arm_line.ensures in
+    let mute = subst (λ (w : Ask). IsMuteLine c.args.self.now.complex c.arm_line.new.complex c.args.self.now.members c.args.number (line_by c.args.line.now.by w)) (sym c.in-StopIn.is)
+    (arm_mute c.args.self.now.complex c.arm_line.new.complex c.args.self.now.members c.args.number c.args.line.now.by c.requires.few c.requires.between _ _ e.frame e.arms) in
+    record { line = mute.line; heard = mute.heard c.args.self.now.readers c.requires.readers }
 
-pub returns-in-StopIn-clause-line : goal.returns-in-StopIn-clause-line
-returns-in-StopIn-clause-line g c =
-    subst (λ (w : Ask). LineIsPlayed c.args.self.now.complex c.play_arm.new.self.complex c.play_arm.new.self.members c.args.number (line_by c.args.line.now.by w) (Ok tt)) (sym c.in-StopIn.is) c.play_arm.ensures.line
-
-pub returns-in-StopIn-clause-heard : goal.returns-in-StopIn-clause-heard
-returns-in-StopIn-clause-heard g c = c.play_arm.ensures.heard
-
-pub returns-in-Lose-clause-line : goal.returns-in-Lose-clause-line
-returns-in-Lose-clause-line g c =
-    subst (λ (w : Ask). LineIsPlayed c.args.self.now.complex c.play_loss.new.self.complex c.play_loss.new.self.members c.args.number (line_by c.args.line.now.by w) (Ok tt)) (sym c.in-Lose.is) c.play_loss.ensures.line
-
-pub returns-in-Lose-clause-heard : goal.returns-in-Lose-clause-heard
-returns-in-Lose-clause-heard g c = c.play_loss.ensures.heard
+pub returns-in-Lose : goal.returns-in-Lose
+returns-in-Lose g c =
+    let e = c.lose.ensures in
+    let mute = subst (λ (w : Ask). IsMuteLine c.args.self.now.complex c.lose.new.self c.args.self.now.members c.args.number (line_by c.args.line.now.by w)) (sym c.in-Lose.is)
+    (lose_mute c.args.self.now.complex c.lose.new.self c.args.self.now.members c.args.number c.args.line.now.by c.requires.few c.requires.between _ e.frame e.dead e.volume e.copy e.loses e.elsewhere e.bytes) in
+    record { line = mute.line; heard = mute.heard c.args.self.now.readers c.requires.readers }

@@ -1,10 +1,10 @@
 use Rattle.mas_run.proofs.Names.{refl, ◌≡◌, ℕ, Some, ap, subst, sym, ◌∙◌, arith, slice_get, set, ◌++◌, ◌-◌, ◌<◌, ◌≤◌, Book, is_holder, in_flight, parts_of, admission_of, IfRuns, AreKeptFrom, Holder, Admission, Denied, Frees, Locks, Plays, Refused, Replaces, Resets, TakesOver, Unplayed, AreReaders, task_place, members_most, few_of}
-use Rattle.mas_run.proofs.ArmLemmas.{InArm, arm_book, arm_kept, arm_within, has_turn, holder_same, in_arm, in_place, own_kept, tried_inside, done_at, may_seat}
-use Rattle.mas_run.proofs.BarelyLemmas.{short_done}
+use Rattle.mas_run.proofs.ArmLemmas.{InArm, arm_book, arm_kept, arm_within, has_turn, holder_same, in_arm, in_place, own_kept, tested_inside, done_at, may_seat}
+use Rattle.mas_run.proofs.ClosingLemmas.{short_done}
 use Rattle.mas_run.proofs.ClosesLemmas.{denied_done, denied_may, denied_named, freed_line, frees_may, frees_none, refused_done, refused_sayer, none_held}
 use Rattle.mas_run.proofs.DoneLemmas.{may_play, may_reset, plays_done, reads_on, resets_done}
-use Rattle.mas_run.proofs.AskLemmas.{heard_task, on_line, place_inside, reads_line, still_done}
-use Rattle.mas_run.proofs.KnownLemmas.{few_asked, few_by}
+use Rattle.mas_run.proofs.AskLemmas.{heard_task, place_inside, reads_line, still_done}
+use Rattle.mas_run.proofs.KnownLemmas.{acts_up, few_asked, few_by}
 use Rattle.mas_run.proofs.ReplacingLemmas.{may_replace, replaces_done}
 use Rattle.mas_run.proofs.SeatLemmas.{seats_done}
 use Rattle.mas_run.proofs.TakesLemmas.{may_take_over, takes_over}
@@ -25,6 +25,22 @@ arm g c a is =
 -- the member's number is one
 few_here : (g : Over) (c : In-Ok g) → c.args.by.0 ≤ members_most
 few_here g c = few_by c.args.by c.args.asked.now c.requires.member c.requires.played.fits.by
+
+-- ITS MEMBER, which acts in it
+
+pub item_mut-member-requires : goal.item_mut-member-requires
+item_mut-member-requires g c =
+    let i = (goal.at.item_mut-member-requires g c).In-Ok in
+    let w = arm g i (admission_of i.in-Ok.admission) refl in
+    let x = c.args.self.now.complex in
+    arm_within w (acts_up x.base w.is.config x.book c.args.by i.in-Ok.admission c.in_default-admission.not-Refused w.known_so) c.saturating_sub-at.result c.saturating_sub-at.ensures
+
+pub holder_of-holder-requires : goal.holder_of-holder-requires
+holder_of-holder-requires g c =
+    let i = (goal.at.holder_of-holder-requires g c).In-Ok in
+    let w = arm g i (admission_of i.in-Ok.admission) refl in
+    let x = c.args.self.now.complex in
+    tested_inside w (acts_up x.base w.is.config x.book c.args.by i.in-Ok.admission c.in_default-admission.not-Refused w.known_so)
 
 -- IT WASN'T TESTED
 
@@ -54,7 +70,7 @@ pub returns-in-Refused : goal.returns-in-Refused
 returns-in-Refused g c =
     let w = arm g (goal.at.returns-in-Refused g c).In-Ok (Refused c.in-Refused.sayer c.in-Refused.end) (ap admission_of c.in-Refused.is) in
     let e = c.say_refused.ensures in
-    let done = refused_done w c.requires.member c.requires.played c.say_refused.new.complex c.say_refused.result e.closed e.frame in
+    let done = refused_done w c.say_refused.new.complex c.say_refused.result e.closed e.frame in
     record { done = done; heard = still_done w done c.args.self.now.readers c.requires.readers (λ k same. absurd (cc)) }
 
 -- ITS MEMBER DIDN'T GET THE LOCK
@@ -89,29 +105,18 @@ returns-in-Frees g c =
 
 -- IT PLAYS A TASK
 
-pub holder_of-holder-requires : goal.holder_of-holder-requires
-holder_of-holder-requires g c =
-    let w = arm g (goal.at.holder_of-holder-requires g c).In-Ok (Plays c.in-Plays.task) (ap admission_of c.in-Plays.is) in
-    tried_inside w w.known_so.0 refl
-
 pub item_mut-reader-requires : goal.item_mut-reader-requires
 item_mut-reader-requires g c =
     let w = arm g (goal.at.item_mut-reader-requires g c).In-Ok (Plays c.in-Plays.task) (ap admission_of c.in-Plays.is) in
     let base = c.args.self.now.complex.base in
-    let inside = place_inside c.in-Plays.task (c.args.by.0 - 1) base.config.members (on_line base c.args.by c.in-Plays.task w.known_so.1)
+    let inside = place_inside base c.args.by c.in-Plays.task (c.args.by.0 - 1) base.config.members w.known_so.1
     (subst (λ (n : ℕ). c.args.by.0 - 1 < n) w.is.many (arm_within w w.known_so.0 (c.args.by.0 - 1) refl)) in
     omega (arith, inside, c.reader_of-place.ensures, c.requires.readers.many)
-
-pub item_mut-requires : goal.item_mut-requires
-item_mut-requires g c =
-    let w = arm g (goal.at.item_mut-requires g c).In-Ok (Plays c.in-Plays.task) (ap admission_of c.in-Plays.is) in
-    arm_within w w.known_so.0 c.saturating_sub-at.result c.saturating_sub-at.ensures
 
 pub play_task-requires : goal.play_task-requires
 play_task-requires g c =
     let w = arm g (goal.at.play_task-requires g c).In-Ok (Plays c.in-Plays.task) (ap admission_of c.in-Plays.is) in
-    let s = in_place w w.known_so.0 c.saturating_sub-at.result c.saturating_sub-at.ensures c.item_mut.result.now c.item_mut.ensures.value in
-    let turn = has_turn w w.known_so.0 w.known_so.2 refl s in
+    let turn = has_turn w w.known_so.0 w.known_so.2 refl c.saturating_sub-at.result c.saturating_sub-at.ensures c.item_mut-member.result.now c.item_mut-member.ensures.value in
     may_play turn c.holder_of-holder.result (holder_same c.admit.new.complex.book c.args.by c.args.step _ _ _ c.holder_of-holder.ensures c.grant_of-grant.ensures) c.in-Plays.task w.known_so.1
 
 pub returns-in-Plays : goal.returns-in-Plays
@@ -121,9 +126,8 @@ returns-in-Plays g c =
     let by = c.args.by in
     let w = arm g (goal.at.returns-in-Plays g c).In-Ok (Plays c.in-Plays.task) (ap admission_of c.in-Plays.is) in
     let i = c.saturating_sub-at.result in
-    let m = c.item_mut.result.now in
-    let s = in_place w w.known_so.0 i c.saturating_sub-at.ensures m c.item_mut.ensures.value in
-    let turn = has_turn w w.known_so.0 w.known_so.2 refl s in
+    let m = c.item_mut-member.result.now in
+    let turn = has_turn w w.known_so.0 w.known_so.2 refl i c.saturating_sub-at.ensures m c.item_mut-member.ensures.value in
     let h = c.holder_of-holder.result in
     let same = holder_same c.admit.new.complex.book by c.args.step h _ _ c.holder_of-holder.ensures c.grant_of-grant.ensures in
     let y = c.play_task.new.complex in
@@ -134,125 +138,94 @@ returns-in-Plays g c =
     let was = c.item_mut-reader.result.now in
     let new = c.play_task.new.reader in
     let task = c.in-Plays.task in
-    let on = on_line x.base by task w.known_so.1 in
     let there : slice_get rs (task_place (by.0 - 1) task) ≡ Some was = subst (λ (k : ℕ). slice_get rs k ≡ Some was) c.reader_of-place.ensures c.item_mut-reader.ensures.value in
-    let read = reads_line P (parts_of x) by rs c.requires.readers w.known_so.0.member w.known_so.0.up task on was there in
+    let read = reads_line P (parts_of x) by rs c.requires.readers w.known_so.0.member w.known_so.0.up x.base task w.known_so.1 was there in
     let one = plays_done turn h same y n e.id e.frame task w.known_so.1 w.adm was new r e.played e.next read in
     record {
-      done = done_at x y c.args.self.now.members n c.args.step by c.args.asked.now r i s.back one;
+      done = done_at x y c.args.self.now.members n c.args.step by c.args.asked.now r i c.saturating_sub-at.ensures one;
       heard = subst (λ (k : ℕ). IfRuns r (AreReaders P (parts_of y) (set rs k new))) (sym c.reader_of-place.ensures)
-          (heard_task w one rs c.requires.readers task refl w.known_so.0.member on was new there e.played.reader
+          (heard_task w one rs c.requires.readers task refl w.known_so.0.member w.known_so.1 was new there e.played.reader
           (λ t ok. reads_on turn h same y n e.id e.frame task w.known_so.1 w.adm was new r e.played e.next read t c.law_of_streams.ensures.pieces ok));
     }
 
 -- IT RESETS A STOPPED MEMBER
 
-pub holder_of-holder-requires-in-Resets : goal.holder_of-holder-requires-in-Resets
-holder_of-holder-requires-in-Resets g c =
-    let w = arm g (goal.at.holder_of-holder-requires-in-Resets g c).In-Ok (Resets c.in-Resets.of) (ap admission_of c.in-Resets.is) in
-    tried_inside w w.known_so.0 refl
-
-pub item_mut-requires-in-Resets : goal.item_mut-requires-in-Resets
-item_mut-requires-in-Resets g c =
-    let w = arm g (goal.at.item_mut-requires-in-Resets g c).In-Ok (Resets c.in-Resets.of) (ap admission_of c.in-Resets.is) in
-    arm_within w w.known_so.0 c.saturating_sub-at.result c.saturating_sub-at.ensures
-
 pub reset_line-requires : goal.reset_line-requires
 reset_line-requires g c =
     let w = arm g (goal.at.reset_line-requires g c).In-Ok (Resets c.in-Resets.of) (ap admission_of c.in-Resets.is) in
-    let s = in_place w w.known_so.0 c.saturating_sub-at.result c.saturating_sub-at.ensures c.item_mut-in-Resets.result.now c.item_mut-in-Resets.ensures.value in
-    let same = holder_same c.admit.new.complex.book c.args.by c.args.step c.holder_of-holder-in-Resets.result _ _ c.holder_of-holder-in-Resets.ensures c.grant_of-grant.ensures in
+    let turn = has_turn w w.known_so.0 w.known_so.2 refl c.saturating_sub-at.result c.saturating_sub-at.ensures c.item_mut-member.result.now c.item_mut-member.ensures.value in
+    let same = holder_same c.admit.new.complex.book c.args.by c.args.step c.holder_of-holder.result _ _ c.holder_of-holder.ensures c.grant_of-grant.ensures in
     record {
-      may = may_reset (has_turn w w.known_so.0 w.known_so.2 refl s) c.holder_of-holder-in-Resets.result same c.in-Resets.of
+      may = may_reset turn c.holder_of-holder.result same c.in-Resets.of
           (few_of c.args.self.now.complex.base.config c.in-Resets.of w.known_so.1.member w.is.config) (w.known_so.1.givable w.known_so.0.member);
     }
 
 pub returns-in-Resets : goal.returns-in-Resets
 returns-in-Resets g c =
     let w = arm g (goal.at.returns-in-Resets g c).In-Ok (Resets c.in-Resets.of) (ap admission_of c.in-Resets.is) in
-    let s = in_place w w.known_so.0 c.saturating_sub-at.result c.saturating_sub-at.ensures c.item_mut-in-Resets.result.now c.item_mut-in-Resets.ensures.value in
-    let same = holder_same c.admit.new.complex.book c.args.by c.args.step c.holder_of-holder-in-Resets.result _ _ c.holder_of-holder-in-Resets.ensures c.grant_of-grant.ensures in
+    let turn = has_turn w w.known_so.0 w.known_so.2 refl c.saturating_sub-at.result c.saturating_sub-at.ensures c.item_mut-member.result.now c.item_mut-member.ensures.value in
+    let same = holder_same c.admit.new.complex.book c.args.by c.args.step c.holder_of-holder.result _ _ c.holder_of-holder.ensures c.grant_of-grant.ensures in
     let e = c.reset_line.ensures in
-    let done = done_at _ _ c.args.self.now.members _ _ _ _ _ _ s.back
-    (resets_done (has_turn w w.known_so.0 w.known_so.2 refl s) c.holder_of-holder-in-Resets.result same c.reset_line.new.complex c.reset_line.new.member e.id e.frame c.in-Resets.of w.adm c.reset_line.result e.reset e.next) in
+    let done = done_at _ _ c.args.self.now.members _ _ _ _ _ _ c.saturating_sub-at.ensures
+    (resets_done turn c.holder_of-holder.result same c.reset_line.new.complex c.reset_line.new.member e.id e.frame c.in-Resets.of w.adm c.reset_line.result e.reset e.next) in
     record { done = done; heard = still_done w done c.args.self.now.readers c.requires.readers (λ k same. absurd (cc)) }
 
 -- IT REPLACES A COPY
 
-pub holder_of-holder-requires-in-Replaces : goal.holder_of-holder-requires-in-Replaces
-holder_of-holder-requires-in-Replaces g c =
-    let w = arm g (goal.at.holder_of-holder-requires-in-Replaces g c).In-Ok (Replaces c.in-Replaces.dev) (ap admission_of c.in-Replaces.is) in
-    tried_inside w w.known_so.0 refl
-
-pub item_mut-requires-in-Replaces : goal.item_mut-requires-in-Replaces
-item_mut-requires-in-Replaces g c =
-    let w = arm g (goal.at.item_mut-requires-in-Replaces g c).In-Ok (Replaces c.in-Replaces.dev) (ap admission_of c.in-Replaces.is) in
-    arm_within w w.known_so.0 c.saturating_sub-at.result c.saturating_sub-at.ensures
-
 pub replace_line-requires : goal.replace_line-requires
 replace_line-requires g c =
     let w = arm g (goal.at.replace_line-requires g c).In-Ok (Replaces c.in-Replaces.dev) (ap admission_of c.in-Replaces.is) in
-    let m = c.item_mut-in-Replaces.result.now in
-    let s = in_place w w.known_so.0 c.saturating_sub-at.result c.saturating_sub-at.ensures m c.item_mut-in-Replaces.ensures.value in
-    let h = c.holder_of-holder-in-Replaces in
+    let m = c.item_mut-member.result.now in
+    let turn = has_turn w w.known_so.0 w.known_so.2 refl c.saturating_sub-at.result c.saturating_sub-at.ensures m c.item_mut-member.ensures.value in
+    let h = c.holder_of-holder in
     let mid = c.admit.new.complex in
     record {
-      may = may_replace (has_turn w w.known_so.0 w.known_so.2 refl s) h.result (holder_same mid.book c.args.by c.args.step h.result _ _ h.ensures c.grant_of-grant.ensures) w.known_so.1;
-      kept = λ told. subst (λ (n : ℕ). AreKeptFrom m.id n (mid.journal.batches ++ in_flight mid.current) (g.P.Plant.view mid.plant).now) (sym (ap (λ (k : Holder). k.step) h.ensures)) (own_kept w m s.own);
+      may = may_replace turn h.result (holder_same mid.book c.args.by c.args.step h.result _ _ h.ensures c.grant_of-grant.ensures) w.known_so.1;
+      kept = λ told. subst (λ (n : ℕ). AreKeptFrom m.id n (mid.journal.batches ++ in_flight mid.current) (g.P.Plant.view mid.plant).now) (sym (ap (λ (k : Holder). k.step) h.ensures)) (own_kept w m turn.own);
     }
 
 pub returns-in-Replaces : goal.returns-in-Replaces
 returns-in-Replaces g c =
     let w = arm g (goal.at.returns-in-Replaces g c).In-Ok (Replaces c.in-Replaces.dev) (ap admission_of c.in-Replaces.is) in
-    let s = in_place w w.known_so.0 c.saturating_sub-at.result c.saturating_sub-at.ensures c.item_mut-in-Replaces.result.now c.item_mut-in-Replaces.ensures.value in
-    let same = holder_same c.admit.new.complex.book c.args.by c.args.step c.holder_of-holder-in-Replaces.result _ _ c.holder_of-holder-in-Replaces.ensures c.grant_of-grant.ensures in
+    let turn = has_turn w w.known_so.0 w.known_so.2 refl c.saturating_sub-at.result c.saturating_sub-at.ensures c.item_mut-member.result.now c.item_mut-member.ensures.value in
+    let same = holder_same c.admit.new.complex.book c.args.by c.args.step c.holder_of-holder.result _ _ c.holder_of-holder.ensures c.grant_of-grant.ensures in
     let e = c.replace_line.ensures in
-    let done = done_at _ _ c.args.self.now.members _ _ _ _ _ _ s.back
-    (replaces_done (has_turn w w.known_so.0 w.known_so.2 refl s) c.holder_of-holder-in-Replaces.result same w.known_so.1 c.replace_line.new.complex c.replace_line.new.member e.id
+    let done = done_at _ _ c.args.self.now.members _ _ _ _ _ _ c.saturating_sub-at.ensures
+    (replaces_done turn c.holder_of-holder.result same w.known_so.1 c.replace_line.new.complex c.replace_line.new.member e.id
     c.replace_line.result e.frame e.replaces) in
     record { done = done; heard = still_done w done c.args.self.now.readers c.requires.readers (λ k same. absurd (cc)) }
 
 -- IT TAKES THE LOCK OVER
 
-pub item_mut-requires-in-TakesOver : goal.item_mut-requires-in-TakesOver
-item_mut-requires-in-TakesOver g c =
-    let w = arm g (goal.at.item_mut-requires-in-TakesOver g c).In-Ok (TakesOver c.in-TakesOver.of) (ap admission_of c.in-TakesOver.is) in
-    arm_within w w.known_so.0 c.saturating_sub-at.result c.saturating_sub-at.ensures
-
 pub take_line-requires : goal.take_line-requires
 take_line-requires g c =
     let w = arm g (goal.at.take_line-requires g c).In-Ok (TakesOver c.in-TakesOver.of) (ap admission_of c.in-TakesOver.is) in
-    record { may = may_take_over w (in_place w w.known_so.0 c.saturating_sub-at.result c.saturating_sub-at.ensures c.item_mut-in-TakesOver.result.now c.item_mut-in-TakesOver.ensures.value) }
+    record { may = may_take_over w (in_place w w.known_so.0 c.saturating_sub-at.result c.saturating_sub-at.ensures c.item_mut-member.result.now c.item_mut-member.ensures.value) }
 
 pub returns-in-TakesOver : goal.returns-in-TakesOver
 returns-in-TakesOver g c =
     let w = arm g (goal.at.returns-in-TakesOver g c).In-Ok (TakesOver c.in-TakesOver.of) (ap admission_of c.in-TakesOver.is) in
-    let s = in_place w w.known_so.0 c.saturating_sub-at.result c.saturating_sub-at.ensures c.item_mut-in-TakesOver.result.now c.item_mut-in-TakesOver.ensures.value in
+    let s = in_place w w.known_so.0 c.saturating_sub-at.result c.saturating_sub-at.ensures c.item_mut-member.result.now c.item_mut-member.ensures.value in
     let e = c.take_line.ensures in
     let done = takes_over w s c.take_line.new.complex c.take_line.new.member e.id e.frame c.take_line.result e.taken e.next in
     record { done = done; heard = still_done w done c.args.self.now.readers c.requires.readers (λ k same. absurd (cc)) }
 
 -- IT KEEPS THE LOCK
 
-pub item_mut-requires-in-Locks : goal.item_mut-requires-in-Locks
-item_mut-requires-in-Locks g c =
-    let w = arm g (goal.at.item_mut-requires-in-Locks g c).In-Ok Locks (ap admission_of c.in-Locks.is) in
-    arm_within w w.known_so.0 c.saturating_sub-at.result c.saturating_sub-at.ensures
-
 pub lock_line-requires : goal.lock_line-requires
 lock_line-requires g c =
     let w = arm g (goal.at.lock_line-requires g c).In-Ok Locks (ap admission_of c.in-Locks.is) in
-    let m = c.item_mut-in-Locks.result.now in
-    let s = in_place w w.known_so.0 c.saturating_sub-at.result c.saturating_sub-at.ensures m c.item_mut-in-Locks.ensures.value in
-    record { may = may_seat (has_turn w w.known_so.0 w.known_so.1 refl s); kept = λ told. own_kept w m s.own }
+    let m = c.item_mut-member.result.now in
+    let turn = has_turn w w.known_so.0 w.known_so.1 refl c.saturating_sub-at.result c.saturating_sub-at.ensures m c.item_mut-member.ensures.value in
+    record { may = may_seat turn; kept = λ told. own_kept w m turn.own }
 
 pub returns-in-Locks : goal.returns-in-Locks
 returns-in-Locks g c =
     let w = arm g (goal.at.returns-in-Locks g c).In-Ok Locks (ap admission_of c.in-Locks.is) in
-    let s = in_place w w.known_so.0 c.saturating_sub-at.result c.saturating_sub-at.ensures c.item_mut-in-Locks.result.now c.item_mut-in-Locks.ensures.value in
+    let turn = has_turn w w.known_so.0 w.known_so.1 refl c.saturating_sub-at.result c.saturating_sub-at.ensures c.item_mut-member.result.now c.item_mut-member.ensures.value in
     let e = c.lock_line.ensures in
-    let done = done_at _ _ c.args.self.now.members _ _ _ _ _ _ s.back
-    (seats_done (has_turn w w.known_so.0 w.known_so.1 refl s) c.lock_line.new.complex c.lock_line.new.member e.id c.lock_line.result e.frame e.locks) in
+    let done = done_at _ _ c.args.self.now.members _ _ _ _ _ _ c.saturating_sub-at.ensures
+    (seats_done turn c.lock_line.new.complex c.lock_line.new.member e.id c.lock_line.result e.frame e.locks) in
     record { done = done; heard = still_done w done c.args.self.now.readers c.requires.readers (λ k same. absurd (cc)) }
 
 pub unreachable-requires : goal.unreachable-requires
