@@ -106,8 +106,8 @@ module _ (told : Type 0) where
       (over_settled p.outcome.found next.at h.view.now there.view.now h.batches next.passed.goes.later next.moment.1 before)
       (over_own step.by h.view.now there.view.now p.outcome.batches next.own next.passed.batches)) in
       by_going p.goes_on (λ b. AreOver end.batches end.view.now) rest
-      (λ m. passed_over (here_after h (given_first gs) step there) (drop 1 gs) steps more end m.1 here)
-      (λ e. subst (λ (x : There). AreOver x.batches x.view.now) (sym e.0) here)
+      (λ on m. passed_over (here_after h (given_first gs) step there) (drop 1 gs) steps more end m.1 here)
+      (λ off e. subst (λ (x : There). AreOver x.batches x.view.now) (sym e.0) here)
 
   -- the lines of a run
   pub lines_over : (b : LinesBegun) (e : LinesEnded) → b.front ≡ [] → NonePassed b e ⊎ HavePassed told b e → AreOver e.batches e.view.now

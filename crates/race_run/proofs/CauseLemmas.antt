@@ -1,5 +1,5 @@
 -- Why a race ended as it did.
-use Rattle.std.proofs.Common.{◌≡◌, ◌∙◌, ◌⊎◌, inl, inr, ⊎_elim, nat_le, ℕ, Bool, true, false, if◌then◌else◌, List, [], ◌∷◌, Result, Ok, Err, refl, sym, ap, subst, arith}
+use Rattle.std.proofs.Common.{◌≡◌, ◌∙◌, ◌⊎◌, inl, inr, ⊎_elim, nat_le, ℕ, Bool, true, false, if◌then◌else◌, List, [], ◌∷◌, Result, Err, refl, sym, ap, subst, arith}
 use Rattle.std.proofs.lemmas.Bool.{le-leb}
 use Rattle.std.proofs.lemmas.Bool.Decides.{nat_tests}
 use Rattle.mas_types.specs.declared.answers.Status.{Status}
@@ -35,18 +35,12 @@ one_of answer one other s least_is is = either_status (is_less (status_code one)
 
 -- which answer has which status
 pub lost_answer : (r : Result (Unit {0}) NodeNo) → status_of r ≡ status.BothLost → r ≡ Err no_node.BothLost
-lost_answer (Ok done) is = absurd (cc)
 lost_answer (Err no_node.BothLost) is = refl
-lost_answer (Err no_node.ConsoleFault) is = absurd (cc)
-lost_answer (Err no_node.Halted) is = absurd (cc)
-lost_answer (Err no_node.NoMemory) is = absurd (cc)
+lost_answer _ is = absurd (cc)
 
 pub failed_answer : (r : Result (Unit {0}) NodeNo) → status_of r ≡ status.ConsoleFault → r ≡ Err no_node.ConsoleFault
-failed_answer (Ok done) is = absurd (cc)
-failed_answer (Err no_node.BothLost) is = absurd (cc)
 failed_answer (Err no_node.ConsoleFault) is = refl
-failed_answer (Err no_node.Halted) is = absurd (cc)
-failed_answer (Err no_node.NoMemory) is = absurd (cc)
+failed_answer _ is = absurd (cc)
 
 done_lost : status.Done ≡ status.BothLost → ⊥
 done_lost e = cc
