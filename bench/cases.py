@@ -47,23 +47,32 @@ def backlog(command, where, count):
 CLASSES = b"ABCDEFGHIJKLMNOPQRSTUVWXYZ0123456789"
 
 
-# Behind the outputs that wait so many more are looked at, or so many idle lines.
-WAITED, IDLE = 600, 5_000
+# Behind the outputs that wait so many more are looked at, or so many idle lines. They are played so often in turn.
+WAITED, IDLE, WAITS = 600, 20_000, 7
 
 
-def waiting(command, where, count, cause, classes):
+def waiting(command, where, count, causes):
     """Milliseconds on the processor of a deck with its work, and of an idle line of WORK, behind so many outputs of
-    class A that wait for their class or for their forms, where the printer takes these classes. Each is what runs with
-    them take more than runs without, the least of three."""
-    output = b"A" if cause == "class" else b"(A,,PAY)"
+    class A. For each cause, they wait for their class or for their forms, where the printer takes these classes. Each
+    is what runs with them take more than runs without. All runs are played in turn, and the least of each counts."""
+    sizes, least = ((count, 0), (count + WAITED, 0), (count, IDLE)), {}
 
-    def least(decks, idle):
+    def run(cause, classes, decks, idle):
+        output = b"A" if cause == "class" else b"(A,,PAY)"
         lines = [SIZES[102].front, b"SYSA $TPRT,Q=%s,F=STD,L=20\n" % classes]
         lines += [*(deck(number, output) for number in range(decks)), *[b"SYSA WORK 1\n"] * idle]
-        return min(in_folder(where, lambda folder: play(command, folder, lines)).processor for _ in range(3))
+        return in_folder(where, lambda folder: play(command, folder, lines)).processor
 
-    none, more, idle = least(count, 0), least(count + WAITED, 0), least(count, IDLE)
-    return 1000 * (more - none) / WAITED, 1000 * (idle - none) / IDLE
+    for _ in range(WAITS):
+        for cause, classes in causes.items():
+            for size in sizes:
+                took = run(cause, classes, *size)
+                least[cause, size] = min(took, least.get((cause, size), took))
+    taken = {cause: [least[cause, size] for size in sizes] for cause in causes}
+    return {
+        cause: (1000 * (more - none) / WAITED, 1000 * (idle - none) / IDLE)
+        for cause, (none, more, idle) in taken.items()
+    }
 
 
 def small_deck(number):
