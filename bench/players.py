@@ -450,13 +450,20 @@ class Taken:
         self.told = told
         if child.returncode != 0 or wanted is not None and b"".join(told) != wanted:
             raise ValueError(f"{words} ended with {child.returncode}, and said {b''.join(told[-2:])!r} last")
-        self.seconds = end - begin - self.waited
+        self.begin, self.seconds = begin, end - begin - self.waited
 
     def each(self, decks):
-        """Seconds a deck of the first tenth and of the last tenth of the decks, without the first deck."""
+        """Seconds a deck of a tenth of the decks, those right after the first five, and of the last tenth. At the line
+        of each fifth deck it is known how long the run has waited for a processor."""
         ends = self.at[1::2]
         tenth = decks // 10
-        return (ends[tenth] - ends[0]) / tenth, (ends[-1] - ends[-1 - tenth]) / tenth
+        return (ends[tenth + 4] - ends[4]) / tenth, (ends[-1] - ends[-1 - tenth]) / tenth
+
+    def tenths(self, decks):
+        """Seconds of each tenth of the decks. The start goes with the first, and the end with the last."""
+        tenth = decks // 10
+        ends = [self.begin, *self.at[1::2][tenth - 1 : -1 : tenth], self.begin + self.seconds]
+        return [end - begin for begin, end in zip(ends, ends[1:])]
 
     def settled(self, decks):
         """Seconds a deck, without the first one and the start before it."""
