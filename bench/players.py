@@ -4,6 +4,7 @@ import json
 import os
 import re
 import shutil
+import signal
 import socket
 import sqlite3
 import subprocess
@@ -450,7 +451,7 @@ class Taken:
         self.told = told
         if child.returncode != 0 or wanted is not None and b"".join(told) != wanted:
             raise ValueError(f"{words} ended with {child.returncode}, and said {b''.join(told[-2:])!r} last")
-        self.begin, self.seconds = begin, end - begin - self.waited
+        self.seconds = end - begin - self.waited
 
     def each(self, decks):
         """Seconds a deck of a tenth of the decks, those right after the first five, and of the last tenth. At the line
@@ -458,12 +459,6 @@ class Taken:
         ends = self.at[1::2]
         tenth = decks // 10
         return (ends[tenth + 4] - ends[4]) / tenth, (ends[-1] - ends[-1 - tenth]) / tenth
-
-    def tenths(self, decks):
-        """Seconds of each tenth of the decks. The start goes with the first, and the end with the last."""
-        tenth = decks // 10
-        ends = [self.begin, *self.at[1::2][tenth - 1 : -1 : tenth], self.begin + self.seconds]
-        return [end - begin for begin, end in zip(ends, ends[1:])]
 
     def settled(self, decks):
         """Seconds a deck, without the first one and the start before it."""
@@ -490,14 +485,75 @@ def in_folder(where, run):
         shutil.rmtree(folder, ignore_errors=True)
 
 
-def taken(player, command, where, played):
-    """One run of a player, of so many decks at a size, in a new folder."""
+def started(player, command, played):
+    """The words and the input with which a player is started, for so many decks at a size."""
     decks, pages = played
     if player == "the program":
-        words, given = [*command, "play", "--cold"], script(decks, SIZES[pages].front)
-    else:
-        words, given = [sys.executable, os.path.abspath(__file__), str(decks), player, str(pages)], b""
-    return in_folder(where, lambda folder: Taken(words, given, folder, decks))
+        return [*command, "play", "--cold"], script(decks, SIZES[pages].front)
+    return [sys.executable, os.path.abspath(__file__), str(decks), player, str(pages)], b""
+
+
+def taken(player, command, where, played):
+    """One run of a player, of so many decks at a size, in a new folder."""
+    words, given = started(player, command, played)
+    return in_folder(where, lambda folder: Taken(words, given, folder, played[0]))
+
+
+class Paused:
+    """A player that is stopped between its turns. Its start and its first decks, as many as a turn has, are no turn."""
+
+    def __init__(self, words, given, folder, decks):
+        self.decks, self.ahead = decks, 0
+        with tempfile.TemporaryFile() as file:
+            file.write(given)
+            file.seek(0)
+            self.child = subprocess.Popen(words, bufsize=PIPE, stdin=file, stdout=subprocess.PIPE, cwd=folder)
+        fcntl.fcntl(self.child.stdout, fcntl.F_SETPIPE_SZ, PIPE)
+        self.wait()
+
+    def wait(self):
+        """Waits until it has said the lines of a turn, and stops it."""
+        left = 2 * self.decks - self.ahead
+        while left > 0:
+            told = os.read(self.child.stdout.fileno(), PIPE)
+            assert told, "a player ended within its turn"
+            left -= told.count(b"\n") - told.startswith(b"READY")
+        end = time.perf_counter()
+        self.ahead = -left
+        self.child.send_signal(signal.SIGSTOP)
+        os.waitpid(self.child.pid, os.WUNTRACED)
+        return end
+
+    def turn(self):
+        """The seconds that a turn takes."""
+        begin = time.perf_counter()
+        self.child.send_signal(signal.SIGCONT)
+        return self.wait() - begin
+
+    def end(self):
+        self.child.kill()
+        self.child.stdout.close()
+        self.child.wait()
+
+
+def taken_in_turns(players, command, where, played, decks):
+    """The seconds that each player took in all, where they take turns of so many decks on one machine. So each has the
+    same calm and slow seconds of it, however long its own turns are."""
+    folders = [tempfile.mkdtemp(prefix="mas-bench-", dir=where) for _ in players]
+    paused, took = [], [0.0 for _ in players]
+    try:
+        for player, folder in zip(players, folders):
+            paused.append(Paused(*started(player, command, played), folder, decks))
+        for number in range(played[0] // decks - 2):
+            for place in range(len(players)):
+                at = (number + place) % len(players)
+                took[at] += paused[at].turn()
+    finally:
+        for it in paused:
+            it.end()
+        for folder in folders:
+            shutil.rmtree(folder, ignore_errors=True)
+    return dict(zip(players, took))
 
 
 def taken_again(done, where):
