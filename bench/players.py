@@ -500,35 +500,37 @@ def taken(player, command, where, played):
 
 
 class Paused:
-    """A player that is stopped between its turns. Its start and its first decks, as many as a turn has, are no turn."""
+    """A player that is stopped between its turns of so many decks. The first one is played at once; the start goes with
+    it, but that of a player in Python."""
 
     def __init__(self, words, given, folder, decks):
-        self.decks, self.ahead = decks, 0
+        self.decks, self.ahead, self.begin = decks, 0, time.perf_counter()
         with tempfile.TemporaryFile() as file:
             file.write(given)
             file.seek(0)
             self.child = subprocess.Popen(words, bufsize=PIPE, stdin=file, stdout=subprocess.PIPE, cwd=folder)
         fcntl.fcntl(self.child.stdout, fcntl.F_SETPIPE_SZ, PIPE)
-        self.wait()
+        self.seconds = self.wait()
 
     def wait(self):
-        """Waits until it has said the lines of a turn, and stops it."""
+        """Waits until it has said the lines of a turn, and stops it. Answers the seconds that the turn took."""
         left = 2 * self.decks - self.ahead
         while left > 0:
             told = os.read(self.child.stdout.fileno(), PIPE)
             assert told, "a player ended within its turn"
-            left -= told.count(b"\n") - told.startswith(b"READY")
-        end = time.perf_counter()
+            left -= told.count(b"\n")
+            if told.startswith(b"READY"):
+                self.begin, left = time.perf_counter(), left + 1
+        took = time.perf_counter() - self.begin
         self.ahead = -left
         self.child.send_signal(signal.SIGSTOP)
         os.waitpid(self.child.pid, os.WUNTRACED)
-        return end
+        return took
 
     def turn(self):
-        """The seconds that a turn takes."""
-        begin = time.perf_counter()
+        self.begin = time.perf_counter()
         self.child.send_signal(signal.SIGCONT)
-        return self.wait() - begin
+        self.seconds += self.wait()
 
     def end(self):
         self.child.kill()
@@ -540,20 +542,19 @@ def taken_in_turns(players, command, where, played, decks):
     """The seconds that each player took in all, where they take turns of so many decks on one machine. So each has the
     same calm and slow seconds of it, however long its own turns are."""
     folders = [tempfile.mkdtemp(prefix="mas-bench-", dir=where) for _ in players]
-    paused, took = [], [0.0 for _ in players]
+    paused = []
     try:
         for player, folder in zip(players, folders):
             paused.append(Paused(*started(player, command, played), folder, decks))
         for number in range(played[0] // decks - 2):
             for place in range(len(players)):
-                at = (number + place) % len(players)
-                took[at] += paused[at].turn()
+                paused[(number + place) % len(players)].turn()
     finally:
         for it in paused:
             it.end()
         for folder in folders:
             shutil.rmtree(folder, ignore_errors=True)
-    return dict(zip(players, took))
+    return {player: it.seconds for player, it in zip(players, paused)}
 
 
 def taken_again(done, where):
