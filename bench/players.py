@@ -1,4 +1,5 @@
 """What plays decks and work: the program, a bare loop with its writes and syncs, queues in SQLite and in beanstalkd."""
+import contextlib
 import fcntl
 import json
 import os
@@ -500,20 +501,19 @@ def taken(player, command, where, played):
 
 
 class Paused:
-    """A player that is stopped between its turns of so many decks. The first one is played at once; the start goes with
-    it, but that of a player in Python."""
+    """A player that is stopped between its turns of so many decks. It begins with the first one at once; the start goes
+    with it, but that of a player in Python."""
 
     def __init__(self, words, given, folder, decks):
-        self.decks, self.ahead, self.begin = decks, 0, time.perf_counter()
+        self.decks, self.ahead, self.seconds, self.begin = decks, 0, 0.0, time.perf_counter()
         with tempfile.TemporaryFile() as file:
             file.write(given)
             file.seek(0)
             self.child = subprocess.Popen(words, bufsize=PIPE, stdin=file, stdout=subprocess.PIPE, cwd=folder)
         fcntl.fcntl(self.child.stdout, fcntl.F_SETPIPE_SZ, PIPE)
-        self.seconds = self.wait()
 
-    def wait(self):
-        """Waits until it has said the lines of a turn, and stops it. Answers the seconds that the turn took."""
+    def end_turn(self):
+        """Waits until it has said the lines of a turn, notes the seconds that this took, and stops it."""
         left = 2 * self.decks - self.ahead
         while left > 0:
             told = os.read(self.child.stdout.fileno(), PIPE)
@@ -521,16 +521,15 @@ class Paused:
             left -= told.count(b"\n")
             if told.startswith(b"READY"):
                 self.begin, left = time.perf_counter(), left + 1
-        took = time.perf_counter() - self.begin
+        self.seconds += time.perf_counter() - self.begin
         self.ahead = -left
         self.child.send_signal(signal.SIGSTOP)
         os.waitpid(self.child.pid, os.WUNTRACED)
-        return took
 
     def turn(self):
         self.begin = time.perf_counter()
         self.child.send_signal(signal.SIGCONT)
-        self.seconds += self.wait()
+        self.end_turn()
 
     def end(self):
         self.child.kill()
@@ -541,20 +540,17 @@ class Paused:
 def taken_in_turns(players, command, where, played, decks):
     """The seconds that each player took in all, where they take turns of so many decks on one machine. So each has the
     same calm and slow seconds of it, however long its own turns are."""
-    folders = [tempfile.mkdtemp(prefix="mas-bench-", dir=where) for _ in players]
-    paused = []
-    try:
-        for player, folder in zip(players, folders):
-            paused.append(Paused(*started(player, command, played), folder, decks))
+    paused = {}
+    with contextlib.ExitStack() as stack:
+        for player in players:
+            folder = stack.enter_context(tempfile.TemporaryDirectory(prefix="mas-bench-", dir=where))
+            paused[player] = Paused(*started(player, command, played), folder, decks)
+            stack.callback(paused[player].end)
+            paused[player].end_turn()
         for number in range(played[0] // decks - 2):
             for place in range(len(players)):
-                paused[(number + place) % len(players)].turn()
-    finally:
-        for it in paused:
-            it.end()
-        for folder in folders:
-            shutil.rmtree(folder, ignore_errors=True)
-    return {player: it.seconds for player, it in zip(players, paused)}
+                paused[players[(number + place) % len(players)]].turn()
+    return {player: it.seconds for player, it in paused.items()}
 
 
 def taken_again(done, where):
